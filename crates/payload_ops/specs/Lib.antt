@@ -1,0 +1,4 @@
+pub mod Numbers
+pub mod Payload
+pub mod Shape
+pub mod formers
