@@ -1,0 +1,76 @@
+ghost use Rattle.std.specs.Prelude.{◌≡◌, ◌≤◌, length, take, Err};
+ghost use Rattle.mlir_verify.specs.Rules.{first_broken};
+ghost use Rattle.mlir_opt.specs.Places.{line_after, column_after};
+ghost use Rattle.mlir_opt.specs.Processed.{processed, printed_unless, read_refusal};
+ghost use Rattle.mlir_opt.specs.Steps.{ProcessIs, IsTextError};
+
+use crate::place::place_after;
+use crate::{Fault, TextError};
+use mlir_ir::Module;
+use mlir_print::file_text;
+use mlir_read::{File, ReadError, read_file};
+use mlir_verify::{Refused, verify};
+use std::alloc::Global;
+
+// A fault at a place of a text.
+fn fault_at(text: &[u8], at: u32, fault: Fault) -> TextError
+    requires { length text.now ≤ 4194304 }
+    ensures { result ≡ TextError.Text (line_after (take at text.now)) (column_after (take at text.now)) fault }
+{
+    let end = text.len().min(at as usize);
+    let (line, column) = place_after(&text[..end]);
+    TextError::Text {
+        line,
+        column,
+        fault,
+    }
+}
+
+// Why a text isn't read.
+fn text_error(text: &[u8], error: ReadError) -> TextError
+    requires { length text.now ≤ 4194304 }
+    ensures { IsTextError (read_refusal text.now error) result }
+{
+    match error {
+        ReadError::Byte(at) => fault_at(text, at, Fault::Byte),
+        ReadError::Unclosed(at) => fault_at(text, at, Fault::Unclosed),
+        ReadError::Syntax(at) => fault_at(text, at, Fault::Syntax),
+        ReadError::Unsupported(at) => fault_at(text, at, Fault::Unsupported),
+        ReadError::UnknownName(at) => fault_at(text, at, Fault::UnknownName),
+        ReadError::Twice(at) => fault_at(text, at, Fault::Twice),
+        ReadError::TypeDiffers(at) => fault_at(text, at, Fault::TypeDiffers),
+        ReadError::Number(at) => fault_at(text, at, Fault::Number),
+        ReadError::Limit { which } => TextError::Limit { which },
+        ReadError::Memory => TextError::Memory,
+    }
+}
+
+// The canonical text of a module, unless a rule fails in it.
+fn verified_text(alloc: Global, ir: Module) -> Result<Vec<u8>, TextError>
+    ensures { ProcessIs (printed_unless (first_broken ir) ir) result }
+{
+    let checked = match verify(alloc, ir) {
+        Ok(checked) => checked,
+        Err(Refused::Rule { rule, op }) => return Err(TextError::Verify { rule, op: op.0 }),
+        Err(Refused::Memory) => return Err(TextError::Memory),
+    };
+    let file = File {
+        module: checked.into_module(),
+    };
+    match file_text(alloc, &file) {
+        Ok(text) => Ok(text.into_vec()),
+        Err(_) => Err(TextError::Memory),
+    }
+}
+
+/// The bytes that are written for a text, or why it is refused.
+#[tactic(auto, unfolding(crate::specs::Processed::processed))]
+pub fn process(alloc: Global, text: &[u8]) -> Result<Vec<u8>, TextError>
+    requires { length text.now ≤ 4194304 }
+    ensures { ProcessIs (processed text.now) result }
+{
+    match read_file(alloc, text) {
+        Ok(file) => verified_text(alloc, file.module),
+        Err(error) => Err(text_error(text, error)),
+    }
+}

@@ -1,0 +1,9 @@
+pub mod Writers
+pub mod Types
+pub mod Names
+pub mod Maps
+pub mod Payloads
+pub mod Operations
+pub mod Canonical
+pub mod Renumbered
+pub mod Parts

@@ -1,0 +1,24 @@
+//! The canonical text of a module: one layout, aliases for the maps that are used, and names that are numbered in the
+//! order of definition.
+//!
+//! `file_text` writes it for a file, and `module_text` for a module. What it is stands in `specs/Canonical.antt` as `text_of`: writers, one for each production of
+//! the grammar, give the pieces of the text and the tree that they spell. `specs/Names.antt` has the names, `specs/Maps.antt`
+//! the aliases, and `specs/Parts.antt` the bytes of each part in the order in which they are written. `specs/Renumbered.antt`
+//! is the same module with the numbers of its text.
+//!
+//! The text is defined for every module. What no text of today's grammar spells is written as `?`, which begins no token, so
+//! that no such text stands for another module.
+#![tactic(auto)]
+
+mod aliases;
+mod file;
+mod names;
+mod operations;
+mod payloads;
+#[cfg(test)]
+mod tests;
+mod text;
+mod types;
+
+pub use file::file_text;
+pub use text::module_text;

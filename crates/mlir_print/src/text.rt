@@ -1,0 +1,198 @@
+//! Functions and modules.
+
+ghost use Rattle.std.specs.Prelude.{◌≡◌, ◌++◌, ◌∷◌, [], OnOk, IfOk};
+ghost use Rattle.mlir_print.specs.Names.{nothing};
+ghost use Rattle.mlir_print.specs.Canonical.{after_params, text_of};
+ghost use Rattle.mlir_print.specs.Parts.{param_text, params_text, body_text, results_text, opening_text, signature_text, func_text, function_text, functions_text, module_text, whole_text, after_ops_texts, after_funcs_texts, after_op_texts};
+
+use crate::aliases::{Aliases, add_maps};
+use crate::names::{Given, Names};
+use crate::operations::{define, write_line};
+use crate::types::{write_name, write_type, write_unbuilt};
+use mlir_ir::{Func, Module, Op, OpKind, Ty, ValueId};
+use payload_ops::{List, Memory};
+use std::alloc::Global;
+
+fn write_param(out: &mut Vec<u8>, names: &Names, ty: &Ty) -> Result<(), Memory>
+    ensures { OnOk result (out.new.items ≡ out.old.items ++ param_text names.now ty.now) }
+{
+    write_name(out, Given::Argument(names.next_argument()))?;
+    out.extend_from_slice(b": ")?;
+    write_type(out, ty)
+}
+
+fn write_params<'a>(
+    out: &mut Vec<u8>,
+    names: &mut Names<'a>,
+    params: &'a [(ValueId, Ty)],
+) -> Result<(), Memory>
+    ensures text { OnOk result (out.new.items ≡ out.old.items ++ params_text [] names.old params.now) }
+    ensures names { OnOk result (names.new ≡ after_params names.old params.now) }
+{
+    let mut before: &[u8] = b"";
+    for param in params {
+        out.extend_from_slice(before)?;
+        write_param(out, names, &param.1)?;
+        names.add_argument(param.0, &param.1)?;
+        before = b", ";
+    }
+    Ok(())
+}
+
+fn write_body<'a>(
+    out: &mut Vec<u8>,
+    aliases: &Aliases,
+    names: &mut Names<'a>,
+    body: &'a [Op],
+) -> Result<(), Memory>
+    ensures { OnOk result (out.new.items ≡ out.old.items ++ body_text aliases.now names.old body.now) }
+{
+    for op in body {
+        out.extend_from_slice(b"\n    ")?;
+        write_line(out, aliases, names, op)?;
+        define(names, op)?;
+    }
+    Ok(())
+}
+
+fn write_results(out: &mut Vec<u8>, results: &[Ty]) -> Result<(), Memory>
+    ensures { OnOk result (out.new.items ≡ out.old.items ++ results_text results.now) }
+{
+    match results {
+        [ty] => write_type(out, ty),
+        _ => write_unbuilt(out),
+    }
+}
+
+fn write_opening(out: &mut Vec<u8>, name: &str) -> Result<(), Memory>
+    ensures { OnOk result (out.new.items ≡ out.old.items ++ opening_text name.now) }
+{
+    out.extend_from_slice(b"func.func @")?;
+    out.extend_from_slice(name.as_bytes())?;
+    out.extend_from_slice(b"(")?;
+    Ok(())
+}
+
+fn write_signature<'a>(
+    out: &mut Vec<u8>,
+    names: &mut Names<'a>,
+    name: &str,
+    params: &'a [(ValueId, Ty)],
+    results: &[Ty],
+) -> Result<(), Memory>
+    requires { names.old ≡ nothing }
+    ensures text { OnOk result (out.new.items ≡ out.old.items ++ signature_text name.now params.now results.now) }
+    ensures names { OnOk result (names.new ≡ after_params nothing params.now) }
+{
+    write_opening(out, name)?;
+    write_params(out, names, params)?;
+    out.extend_from_slice(b") -> ")?;
+    write_results(out, results)
+}
+
+fn write_func<'a>(
+    alloc: Global,
+    out: &mut Vec<u8>,
+    aliases: &Aliases,
+    name: &str,
+    params: &'a [(ValueId, Ty)],
+    results: &[Ty],
+    body: &'a [Op],
+) -> Result<(), Memory>
+    ensures { OnOk result (out.new.items ≡ out.old.items ++ func_text aliases.now name.now params.now results.now body.now) }
+{
+    let mut names = Names::new(alloc);
+    write_signature(out, &mut names, name, params, results)?;
+    out.extend_from_slice(b" {")?;
+    write_body(out, aliases, &mut names, body)?;
+    out.extend_from_slice(b"\n  }")?;
+    Ok(())
+}
+
+fn write_function(
+    alloc: Global,
+    out: &mut Vec<u8>,
+    aliases: &Aliases,
+    func: &Func,
+) -> Result<(), Memory>
+    ensures { OnOk result (out.new.items ≡ out.old.items ++ function_text aliases.now func.now) }
+{
+    write_func(
+        alloc,
+        out,
+        aliases,
+        func.name.as_str(),
+        func.params.as_slice(),
+        func.results.as_slice(),
+        func.body.as_slice(),
+    )
+}
+
+fn write_functions(
+    alloc: Global,
+    out: &mut Vec<u8>,
+    aliases: &Aliases,
+    funcs: &[Func],
+) -> Result<(), Memory>
+    ensures { OnOk result (out.new.items ≡ out.old.items ++ functions_text aliases.now funcs.now) }
+{
+    for func in funcs {
+        out.extend_from_slice(b"\n  ")?;
+        write_function(alloc, out, aliases, func)?;
+    }
+    Ok(())
+}
+
+fn add_op(alloc: Global, aliases: &mut Aliases, op: &Op) -> Result<(), Memory>
+    ensures { OnOk result (aliases.new ≡ after_op_texts aliases.old op.now) }
+{
+    match &op.kind {
+        OpKind::Generic { maps, .. } => add_maps(alloc, aliases, maps.as_slice()),
+        _ => Ok(()),
+    }
+}
+
+fn add_ops(alloc: Global, aliases: &mut Aliases, body: &[Op]) -> Result<(), Memory>
+    ensures { OnOk result (aliases.new ≡ after_ops_texts aliases.old body.now) }
+{
+    for op in body {
+        add_op(alloc, aliases, op)?;
+    }
+    Ok(())
+}
+
+fn add_funcs(alloc: Global, aliases: &mut Aliases, funcs: &[Func]) -> Result<(), Memory>
+    ensures { OnOk result (aliases.new ≡ after_funcs_texts aliases.old funcs.now) }
+{
+    for func in funcs {
+        add_ops(alloc, aliases, func.body.as_slice())?;
+    }
+    Ok(())
+}
+
+fn write_module(
+    alloc: Global,
+    out: &mut Vec<u8>,
+    aliases: &Aliases,
+    funcs: &[Func],
+) -> Result<(), Memory>
+    ensures { OnOk result (out.new.items ≡ out.old.items ++ whole_text aliases.now funcs.now) }
+{
+    aliases.write_lines(out)?;
+    out.extend_from_slice(b"module {")?;
+    write_functions(alloc, out, aliases, funcs)?;
+    out.extend_from_slice(b"\n}\n")?;
+    Ok(())
+}
+
+/// The canonical text of a module.
+#[tactic(auto, using(crate::proofs::Bytes::text_bytes))]
+pub fn module_text(alloc: Global, ir: &Module) -> Result<List<u8>, Memory>
+    ensures { IfOk result (λ text. text ≡ text_of ir.now) }
+{
+    let mut aliases = Aliases::new(alloc);
+    add_funcs(alloc, &mut aliases, ir.funcs.as_slice())?;
+    let mut out = Vec::new(alloc);
+    write_module(alloc, &mut out, &aliases, ir.funcs.as_slice())?;
+    Ok(List::from_vec(out))
+}

@@ -1,0 +1,149 @@
+//! A text, read.
+
+ghost use Rattle.std.specs.Prelude.{◌≡◌, ◌≤◌, All, IfOk, length};
+ghost use Rattle.mlir_ir.specs.declared.tree.Module.{Module as Read};
+ghost use Rattle.text_format.specs.Tokens.{IsSpan};
+ghost use Rattle.text_format.specs.Parsing.{stop_of};
+ghost use Rattle.mlir_read.specs.Resolve.{item_in, resolve};
+ghost use Rattle.mlir_read.specs.Reading.{behind, place_of, fault_error, stop_by, first_of, of_tokens, reading, Reads, Answers, StandsFor, Gives, Tells};
+
+use crate::fault::{Fault, Refused};
+use crate::functions::read_module;
+use mlir_ir::Module;
+use mlir_lex::{LexError, ReadError, Token, tokens};
+use mlir_syntax::{Item, Text, read_tree};
+use std::alloc::Global;
+use text_format::{Class, Lexeme, Parser, Position, Reason, Stopped};
+
+/// What a text holds.
+#[derive(Drop)]
+pub struct File {
+    pub module: Module,
+}
+
+/// What may stand behind the item.
+fn behind(text: &Text) -> Class
+    ensures { result ≡ behind (item_in text.now) }
+{
+    let item = match text {
+        Text::First(first) => &first.item,
+        Text::Last(item, _) => item,
+    };
+    match item {
+        Item::Bare(_) => Class::Name(Position::Item, Lexeme::FuncFunc),
+        Item::Inside(_) => Class::Alias,
+    }
+}
+
+fn place_of(fault: Fault) -> u32
+    ensures { result ≡ place_of fault }
+{
+    match fault {
+        Fault::Syntax(at) => at,
+        Fault::Unsupported(at) => at,
+        Fault::UnknownName(at) => at,
+        Fault::Twice(at) => at,
+        Fault::TypeDiffers(at) => at,
+        Fault::Number(at) => at,
+        Fault::Limit(_, at) => at,
+    }
+}
+
+fn fault_error(fault: Fault) -> ReadError
+    ensures { result ≡ fault_error fault }
+{
+    match fault {
+        Fault::Syntax(at) => ReadError::Syntax(at),
+        Fault::Unsupported(at) => ReadError::Unsupported(at),
+        Fault::UnknownName(at) => ReadError::UnknownName(at),
+        Fault::Twice(at) => ReadError::Twice(at),
+        Fault::TypeDiffers(at) => ReadError::TypeDiffers(at),
+        Fault::Number(at) => ReadError::Number(at),
+        Fault::Limit(which, _) => ReadError::Limit { which },
+    }
+}
+
+fn stop_error(stopped: Stopped) -> ReadError
+    ensures { result ≡ stop_by stopped.at stopped.why }
+{
+    match stopped.why {
+        Reason::Syntax => ReadError::Syntax(stopped.at),
+        Reason::Unsupported => ReadError::Unsupported(stopped.at),
+    }
+}
+
+/// The module of a tree whose reading stopped so, or the fault that stands first: one of the tree, or the stop.
+fn read_stopped(alloc: Global, tree: &Text, stop: Option<Stopped>) -> Result<Module, ReadError>
+    ensures { Reads result (first_of (resolve tree.now) (stop_of stop)) }
+{
+    match read_module(alloc, tree) {
+        Ok(module) => match stop {
+            None => Ok(module),
+            Some(stopped) => Err(stop_error(stopped)),
+        },
+        Err(Refused::Memory) => Err(ReadError::Memory),
+        Err(Refused::At(fault)) => match stop {
+            None => Err(fault_error(fault)),
+            Some(stopped) => {
+                if place_of(fault) < stopped.at {
+                    Err(fault_error(fault))
+                } else {
+                    Err(stop_error(stopped))
+                }
+            }
+        },
+    }
+}
+
+/// The module that the tokens of a text stand for.
+#[tactic(auto, unfolding(crate::specs::Reading::of_tokens))]
+fn read_tokens(alloc: Global, text: &[u8], list: &[Token]) -> Result<Module, ReadError>
+    requires short { length text.now ≤ 4194304 }
+    requires spans { All (IsSpan text.now) list.now }
+    ensures { Reads result (of_tokens text.now list.now) }
+{
+    let mut parser = Parser::new(text, list);
+    let tree = match read_tree(alloc, &mut parser) {
+        Ok(tree) => tree,
+        Err(_) => return Err(ReadError::Memory),
+    };
+    let stop = parser.end(behind(&tree));
+    read_stopped(alloc, &tree, stop)
+}
+
+/// The file of a text, or its first fault.
+fn read_text(alloc: Global, text: &[u8]) -> Result<File, ReadError>
+    requires { length text.now ≤ 4194304 }
+    ensures { Answers result (reading text.now) }
+{
+    let lexed = match tokens(alloc, text) {
+        Ok(lexed) => lexed,
+        Err(error) => return Err(ReadError::from(error)),
+    };
+    match read_tokens(alloc, text, lexed.list().as_slice()) {
+        Ok(module) => Ok(File { module }),
+        Err(error) => Err(error),
+    }
+}
+
+/// The file that a text stands for. Its operations are numbered 0, 1 and so on in tree order, and its values in the order of
+/// their definitions.
+///
+/// # Errors
+/// The first fault of the text: a fault of its bytes, and else the fault at the first token. At one token `Unsupported` comes
+/// before `Syntax`, and the others behind that in the order of the variants. `Memory` may come at any text.
+pub fn read_file(alloc: Global, text: &[u8]) -> Result<File, ReadError>
+    requires { length text.now ≤ 4194304 }
+    ensures exact { Answers result (reading text.now) }
+
+    // What is read is what the text stands for.
+    ensures found { IfOk result (λ f. StandsFor text.now f.module) }
+
+    // A text that stands for a module is read as that, unless memory runs out.
+    ensures only { (m : Read) → StandsFor text.now m → Gives m result }
+
+    // What is told is a fault of the text, and no text goes on with what stands at a stop.
+    ensures fault { Tells text.now result }
+{
+    read_text(alloc, text)
+}

@@ -1,0 +1,15 @@
+pub mod Rows
+pub mod Fits
+pub mod Envs
+pub mod Aliases
+pub mod Readable
+pub mod Spaced
+pub mod Regions
+pub mod Rounds
+pub mod Spelled
+pub mod Fitting
+pub mod Values
+pub mod Operations
+pub mod Functions
+pub mod Symbols
+pub mod Laws

@@ -1,0 +1,10 @@
+pub mod Place
+pub mod Names
+pub mod Built
+pub mod Types
+pub mod Maps
+pub mod Extents
+pub mod Rules
+pub mod Stages
+pub mod Scope
+pub mod Walk

@@ -1,0 +1,122 @@
+ghost use Rattle.std.specs.Prelude.{◌≡◌, ℕ, List, [], ◌∷◌, pos, int_le, IfOk, option_copied};
+ghost use Rattle.std.specs.List.{list_all, zip, enumerate_from};
+ghost use Rattle.mlir_verify.specs.Maps.{extents_of, is_not_negative, fits_operand, is_iterator, dimensions};
+ghost use Rattle.mlir_verify.specs.Scope.{types_in, IsSet, Adds};
+ghost use Rattle.mlir_verify.specs.Stages.{IsPermuted, is_in};
+
+use crate::built::{dimension, is_built_map};
+use crate::scope::Scope;
+use affine_maps::{AffineMap, Expr};
+use mlir_ir::{Extent, Iter, Ty, ValueId};
+use payload_ops::Memory;
+use std::alloc::Global;
+use std::collections::BTreeSet;
+
+/// The extents of a tensor.
+pub(crate) fn extents_of<'a>(ty: Option<&'a Ty>) -> &'a [Extent]
+    ensures { result.now ≡ extents_of (option_copied ty.entry) }
+{
+    match ty {
+        Some(Ty::Tensor { extents, .. }) => extents.as_slice(),
+        _ => &[],
+    }
+}
+
+fn has_no_negative_term(terms: &[(u32, i64)]) -> bool
+    ensures { result ≡ list_all (λ t. int_le (pos 0) t.1) terms.now }
+{
+    terms.iter().all(|t| 0 <= t.1)
+}
+
+fn is_not_negative(e: &Expr) -> bool
+    ensures { result ≡ is_not_negative e.now }
+{
+    0 <= e.constant && has_no_negative_term(e.terms.as_slice())
+}
+
+fn are_not_negative(results: &[Expr]) -> bool
+    ensures { result ≡ list_all is_not_negative results.now }
+{
+    results.iter().all(|e| is_not_negative(e))
+}
+
+/// Whether a map has one dimension for each iterator, one result for each axis of its operand, and no negative number.
+pub(crate) fn fits_operand(dims: usize, m: &AffineMap, ty: Option<&Ty>) -> bool
+    ensures { result ≡ fits_operand dims m.now (option_copied ty.entry) }
+{
+    let results = m.results().as_slice();
+    (m.dims() as usize == dims && results.len() == extents_of(ty).len())
+        && are_not_negative(results)
+}
+
+pub(crate) fn fit_inputs(scope: &Scope, dims: usize, ins: &[ValueId], maps: &[AffineMap]) -> bool
+    ensures { result ≡ list_all (λ x. fits_operand dims x.1 (types_in scope.now (x.0).0)) (zip ins.now maps.now) }
+{
+    ins.iter()
+        .zip(maps)
+        .all(|(v, m)| fits_operand(dims, m, scope.type_of(*v)))
+}
+
+/// Adds the dimension that an expression is alone, if any; false where it is there.
+fn add_dimension(set: &mut BTreeSet<usize>, e: &Expr) -> Result<bool, Memory>
+    ensures { (known : List ℕ) → IsSet set.old known → Adds result set.new (dimensions (e.now ∷ [])) known }
+{
+    match dimension(e) {
+        Some(d) => match set.insert(d as usize) {
+            Ok(added) => Ok(added),
+            Err(_) => Err(Memory),
+        },
+        None => Ok(true),
+    }
+}
+
+/// Adds the dimensions that these expressions are alone; false where one is there or stands twice.
+fn add_dimensions(set: &mut BTreeSet<usize>, results: &[Expr]) -> Result<bool, Memory>
+    ensures { (known : List ℕ) → IsSet set.old known → Adds result set.new (dimensions results.now) known }
+{
+    for e in results {
+        match add_dimension(set, e) {
+            Ok(true) => {}
+            Ok(false) => return Ok(false),
+            Err(e) => return Err(e),
+        }
+    }
+    Ok(true)
+}
+
+/// The dimensions of a map that is a projected permutation.
+pub(crate) fn permuted_dimensions(
+    alloc: Global,
+    m: &AffineMap,
+) -> Result<Option<BTreeSet<usize>>, Memory>
+    ensures { IfOk result (λ found. IsPermuted found m.now) }
+{
+    if !is_built_map(m) {
+        return Ok(None);
+    }
+    let mut dims = BTreeSet::new(alloc);
+    match add_dimensions(&mut dims, m.results().as_slice()) {
+        Ok(true) => Ok(Some(dims)),
+        Ok(false) => Ok(None),
+        Err(e) => Err(e),
+    }
+}
+
+fn is_iterator(kind: &Iter, in_output: bool) -> bool
+    ensures { result ≡ is_iterator kind.now in_output }
+{
+    match kind {
+        Iter::Parallel => in_output,
+        Iter::Reduction => !in_output,
+    }
+}
+
+/// Whether the parallel dimensions are those of the output.
+pub(crate) fn match_dimensions(iterators: &[Iter], output: &BTreeSet<usize>) -> bool
+    ensures { result ≡ list_all (λ i. is_iterator i.1 (is_in output.now i.0)) (enumerate_from 0 iterators.now) }
+{
+    iterators
+        .iter()
+        .enumerate()
+        .all(|(d, kind)| is_iterator(kind, output.contains(&d)))
+}

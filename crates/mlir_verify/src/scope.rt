@@ -1,0 +1,43 @@
+ghost use Rattle.std.specs.Prelude.{◌≡◌, ℕ, None, option_copied, OnOk};
+ghost use Rattle.mlir_ir.specs.Count.{first, operands, idx_values};
+ghost use Rattle.mlir_verify.specs.Place.{type_among};
+ghost use Rattle.mlir_verify.specs.Scope.{types_in};
+
+use mlir_ir::{Ty, ValueId};
+use payload_ops::Memory;
+use std::alloc::Global;
+use std::collections::BTreeMap;
+
+/// The types of the values in scope.
+#[derive(Drop)]
+pub(crate) struct Scope<'a> {
+    types: BTreeMap<u32, &'a Ty>,
+}
+
+impl<'a> Scope<'a> {
+    pub(crate) fn new(alloc: Global) -> Scope<'a>
+        ensures { (v : ℕ) → types_in result v ≡ None }
+    {
+        Scope {
+            types: BTreeMap::new(alloc),
+        }
+    }
+
+    pub(crate) fn type_of(&self, v: ValueId) -> Option<&'a Ty>
+        ensures { option_copied result ≡ types_in self.now v.0 }
+    {
+        self.types.get(&v.0).copied()
+    }
+
+    /// Brings these definitions into scope.
+    pub(crate) fn bind(&mut self, definitions: &'a [(ValueId, Ty)]) -> Result<(), Memory>
+        ensures { OnOk result ((v : ℕ) → types_in self.new v ≡ first (type_among definitions.now v) (types_in self.old v)) }
+    {
+        for d in definitions {
+            if self.types.insert(d.0.0, &d.1).is_err() {
+                return Err(Memory);
+            }
+        }
+        Ok(())
+    }
+}

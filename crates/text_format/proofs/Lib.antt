@@ -1,0 +1,7 @@
+pub mod Loops
+mod Numbers
+pub mod Ordered
+pub mod Printed
+pub mod Runs
+pub mod Scans
+pub mod Spacing

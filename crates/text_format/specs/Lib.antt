@@ -1,0 +1,17 @@
+pub mod Apart
+pub mod Bytes
+pub mod Classes
+pub mod Ends
+pub mod Exact
+pub mod Formats
+pub mod Laws
+pub mod Lexemes
+pub mod Many
+pub mod Nested
+pub mod Parsing
+pub mod Pieces
+pub mod Places
+pub mod Token
+pub mod Tokens
+pub mod Types
+pub mod Words
