@@ -160,16 +160,15 @@ fn texts_are_answered(rt: HostRuntime) -> Result<(), Fail> {
 fn prefixes_are_refused(rt: HostRuntime) -> Result<(), Fail> {
     let alloc = rt.alloc();
     let whole = WRITTEN.as_bytes();
-    let mut end = 0;
-    for _byte in whole {
-        let mut shelf = CleanShelf::new(input(alloc, &whole[..whole.len().min(end)])?);
+    for end in 0..whole.len() {
+        let (front, _) = whole.split_at(end);
+        let mut shelf = CleanShelf::new(input(alloc, front)?);
         let mut out = CleanSink::new(alloc);
         let mut err = CleanSink::new(alloc);
         let all = words(alloc, 1)?;
         let ended = mlir_opt(alloc, &all, &mut shelf, &mut out, &mut err);
         assert!(rt; ended <= 1, "{end}");
         assert_eq!(rt; out.bytes().is_empty(), ended == 1, "{end}");
-        end += 1;
     }
     Ok(())
 }
