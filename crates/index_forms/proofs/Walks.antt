@@ -1,0 +1,231 @@
+-- What one step of the elimination does.
+use Rattle.std.proofs.Common.{◌≡◌, ℕ, ◌+◌, ◌<◌, ◌≤◌, ◌==◌, ℤ, pos, negsuc, ◌+ℤ◌, ◌*ℤ◌, int_lt, Bool, true, false, List, [], ◌∷◌, length, drop, get_or, refl, ap, sym, ◌∙◌, subst, arith, suc, zero, IsTrue, add-one, Option, Some, None, ◌⊎◌, inl, inr, add-zero, Result, Ok, Err, IfOk, IfErr, FitsSigned, w64, to_z, of_z, take, ◌-◌}
+use Rattle.std.specs.List.{fold}
+use Rattle.std.proofs.lemmas.List.{take_all}
+use Rattle.std.proofs.lemmas.Int.{to_z-of_z}
+use Rattle.std.specs.Prelude.{if◌then◌else◌}
+use Rattle.std.proofs.lemmas.Bool.{cases_lt}
+use Rattle.std.proofs.lemmas.Bool.Decides.{nat_tests}
+use Rattle.std.proofs.Math.Seq.{drop-cons}
+use Rattle.index_forms.specs.declared.form.LinForm.{LinForm}
+use Rattle.index_forms.specs.declared.form.Fact.{Fact}
+use Rattle.index_forms.specs.declared.form.Fact.TheVariants.{Loop, Extent}
+use Rattle.index_forms.specs.Forms.{form, keep, scaled, merge_at, merge, plus, within, all_in, in_limit, Falls, ended, bound, bound_step, forms_met, met_step, bounds_of, met_of, join, combined, choices, loop_end, fact_at, AreForms, IsForm}
+use Rattle.index_forms.proofs.Ints.{split_lt, and_right}
+use Rattle.index_forms.proofs.Merge.{Terms}
+
+pub falls_more : (m n : ℕ) (ts : Terms) → m ≤ n → Falls m ts → Falls n ts
+falls_more m n [] h f = f
+falls_more m n (t ∷ ts) h f = (omega arith, f.1)
+
+pub falls_keep : (n k : ℕ) (z : ℤ) (ts : Terms) → k < n → Falls k ts → Falls n (keep k z ts)
+falls_keep n k (pos zero) ts h f = falls_more k n ts (omega arith) f
+falls_keep n k (pos (suc z)) ts h f = (h, f)
+falls_keep n k (negsuc z) ts h f = (h, f)
+
+pub falls_scaled : (n : ℕ) (c : ℤ) (ts : Terms) → Falls n ts → Falls n (scaled c ts)
+falls_scaled n c [] f = f
+falls_scaled n c (t ∷ ts) f = (f.0, falls_scaled t.0 c ts f.1)
+
+falls_merge_at : (c : ℤ) (k : ℕ) (z : ℤ) (rest : Terms → Terms) → ((m : ℕ) (gs : Terms) → k ≤ m → Falls m gs → Falls m (rest gs)) → ((gs : Terms) → Falls k gs → Falls k (rest gs)) →
+    (n : ℕ) (gs : Terms) → k < n → Falls n gs → Falls n (merge_at c k z rest gs)
+falls_merge_at c k z rest more h n [] p f = (p, h [] tt)
+falls_merge_at c k z rest more h n (g ∷ gs) p f =
+    split_lt (λ x y. Falls n (if x then (k, z) ∷ rest (g ∷ gs) else (if y then (g.0, c *ℤ g.1) ∷ merge_at c k z rest gs else keep k (z +ℤ c *ℤ g.1) (rest gs)))) g.0 k
+    (λ q. (p, h (g ∷ gs) (q, f.1)))
+    (λ q. (f.0, falls_merge_at c k z rest more h g.0 gs q f.1))
+    (λ q. falls_keep n k (z +ℤ c *ℤ g.1) (rest gs) p (h gs (subst (λ (j : ℕ). Falls j gs) q f.1)))
+
+pub falls_merge : (n : ℕ) (c : ℤ) (ts gs : Terms) → Falls n ts → Falls n gs → Falls n (merge c ts gs)
+falls_merge n c [] gs f h = falls_scaled n c gs h
+falls_merge n c (t ∷ ts) gs f h =
+    falls_merge_at c t.0 t.1 (merge c ts) (λ m hs p q. falls_merge m c ts hs (falls_more t.0 m ts p f.1) q) (λ hs q. falls_merge t.0 c ts hs f.1 q) n gs f.0 h
+
+module _ (facts : List Fact) where
+  bound_open : (k : ℕ) (f : LinForm) → IsTrue (within f) → bound facts (suc k) f ≡ bound_step (bound facts k) (fact_at facts k) k f.constant f.terms
+  unfolding bound
+  bound_open k f h = ap (λ (b : Bool). if b then bound_step (bound facts k) (fact_at facts k) k f.constant f.terms else None) h
+
+  met_open : (k : ℕ) (f : LinForm) → IsTrue (within f) → forms_met facts (suc k) f ≡ met_step (forms_met facts k) (fact_at facts k) k f.constant f.terms
+  unfolding forms_met
+  met_open k f h = ap (λ (b : Bool). if b then met_step (forms_met facts k) (fact_at facts k) k f.constant f.terms else 1) h
+
+  pub bound_none : (n : ℕ) (c : ℤ) → IsTrue (within (form c [])) → bound facts n (form c []) ≡ Some c
+  unfolding bound
+  bound_none zero c h = ap (λ (b : Bool). if b then Some c else None) h
+  bound_none (suc n) c h = bound_open n (form c []) h ∙ bound_none n c h
+
+  pub met_none : (n : ℕ) (c : ℤ) → IsTrue (within (form c [])) → forms_met facts n (form c []) ≡ 1
+  unfolding forms_met
+  met_none zero c h = refl
+  met_none (suc n) c h = met_open n (form c []) h ∙ met_none n c h
+
+  -- a form past the limit
+  pub bound_out : (n : ℕ) (f : LinForm) → within f ≡ false → bound facts n f ≡ None
+  unfolding bound
+  bound_out zero f h = ap (λ (b : Bool). if b then ended f.constant f.terms else None) h
+  bound_out (suc n) f h = ap (λ (b : Bool). if b then bound_step (bound facts n) (fact_at facts n) n f.constant f.terms else None) h
+
+  pub met_out : (n : ℕ) (f : LinForm) → within f ≡ false → forms_met facts n f ≡ 1
+  unfolding forms_met
+  met_out zero f h = refl
+  met_out (suc n) f h = ap (λ (b : Bool). if b then met_step (forms_met facts n) (fact_at facts n) n f.constant f.terms else 1) h
+
+  module _ (c : ℤ) (t : ℕ × ℤ) (ts : Terms) (h : IsTrue (within (form c (t ∷ ts)))) where
+    abbrev Answer : Option ℤ
+    Answer = combined (int_lt (pos 0) t.1) (bounds_of (bound facts t.0) c ts t.1 (choices (fact_at facts t.0) t.1))
+
+    abbrev Met : ℕ
+    Met = 1 + met_of (forms_met facts t.0) c ts t.1 (choices (fact_at facts t.0) t.1)
+
+    bound_here : (n : ℕ) → n ≡ t.0 → bound_step (bound facts n) (fact_at facts n) n c (t ∷ ts) ≡ Answer
+    bound_here n e =
+        let q : (t.0 == t.0) ≡ true = grind (arith, nat_tests) in
+        subst (λ (m : ℕ). bound_step (bound facts m) (fact_at facts m) m c (t ∷ ts) ≡ Answer) (sym e) (ap (λ (b : Bool). if b then Answer else bound facts t.0 (form c (t ∷ ts))) q)
+
+    bound_later : (n : ℕ) → t.0 < n → bound_step (bound facts n) (fact_at facts n) n c (t ∷ ts) ≡ bound facts n (form c (t ∷ ts))
+    bound_later n p =
+        let q : (t.0 == n) ≡ false = grind (arith, nat_tests) in
+        ap (λ (b : Bool). if b then combined (int_lt (pos 0) t.1) (bounds_of (bound facts n) c ts t.1 (choices (fact_at facts n) t.1)) else bound facts n (form c (t ∷ ts))) q
+
+    met_here : (n : ℕ) → n ≡ t.0 → met_step (forms_met facts n) (fact_at facts n) n c (t ∷ ts) ≡ Met
+    met_here n e =
+        let q : (t.0 == t.0) ≡ true = grind (arith, nat_tests) in
+        subst (λ (m : ℕ). met_step (forms_met facts m) (fact_at facts m) m c (t ∷ ts) ≡ Met) (sym e) (ap (λ (b : Bool). if b then Met else forms_met facts t.0 (form c (t ∷ ts))) q)
+
+    met_later : (n : ℕ) → t.0 < n → met_step (forms_met facts n) (fact_at facts n) n c (t ∷ ts) ≡ forms_met facts n (form c (t ∷ ts))
+    met_later n p =
+        let q : (t.0 == n) ≡ false = grind (arith, nat_tests) in
+        ap (λ (b : Bool). if b then 1 + met_of (forms_met facts n) c ts t.1 (choices (fact_at facts n) t.1) else forms_met facts n (form c (t ∷ ts))) q
+
+    pub both_at : (n : ℕ) → t.0 < n → (bound facts n (form c (t ∷ ts)) ≡ Answer) × (forms_met facts n (form c (t ∷ ts)) ≡ Met)
+    both_at zero p = absurd (omega arith)
+    both_at (suc n) p = of_case (cases_lt t.0 n) (both_at n) where
+      of_case : (t.0 < n) ⊎ (n ≤ t.0) → (t.0 < n → (bound facts n (form c (t ∷ ts)) ≡ Answer) × (forms_met facts n (form c (t ∷ ts)) ≡ Met)) →
+          (bound facts (suc n) (form c (t ∷ ts)) ≡ Answer) × (forms_met facts (suc n) (form c (t ∷ ts)) ≡ Met)
+      of_case (inl q) ih = (bound_open n (form c (t ∷ ts)) h ∙ bound_later n q ∙ (ih q).0, met_open n (form c (t ∷ ts)) h ∙ met_later n q ∙ (ih q).1)
+      of_case (inr q) ih = (bound_open n (form c (t ∷ ts)) h ∙ bound_here n (omega arith), met_open n (form c (t ∷ ts)) h ∙ met_here n (omega arith))
+
+module _ (facts : List Fact) (n : ℕ) (f : LinForm) (t : ℕ × ℤ) (ts : Terms) (is : f.terms ≡ t ∷ ts) (w : IsTrue (within f)) (falls : Falls n f.terms) where
+  shape : (P : LinForm → Type 0) → P (form f.constant (t ∷ ts)) → P f
+  shape P h = subst (λ (x : Terms). P (form f.constant x)) (sym is) h
+
+  within_shape : IsTrue (within (form f.constant (t ∷ ts)))
+  within_shape = subst (λ (x : Terms). IsTrue (within (form f.constant x))) is w
+
+  pub falls_shape : (t.0 < n) × Falls t.0 ts
+  falls_shape = subst (λ (x : Terms). Falls n x) is falls
+
+  pub rest_in : IsTrue (all_in ts)
+  rest_in = and_right (in_limit t.1) (all_in ts) (and_right (in_limit f.constant) (all_in (t ∷ ts)) within_shape)
+
+  pub many_are : (gs : List LinForm) → choices (fact_at facts t.0) t.1 ≡ gs →
+      (bound facts n f ≡ combined (int_lt (pos 0) t.1) (bounds_of (bound facts t.0) f.constant ts t.1 gs)) × (forms_met facts n f ≡ 1 + met_of (forms_met facts t.0) f.constant ts t.1 gs)
+  many_are gs e =
+      let b = both_at facts f.constant t ts within_shape n falls_shape.0 in (
+        shape (λ x. bound facts n x ≡ combined (int_lt (pos 0) t.1) (bounds_of (bound facts t.0) f.constant ts t.1 gs)) (b.0 ∙ ap (λ (gs : List LinForm). combined (int_lt (pos 0) t.1) (bounds_of (bound facts t.0) f.constant ts t.1 gs)) e),
+        shape (λ x. forms_met facts n x ≡ 1 + met_of (forms_met facts t.0) f.constant ts t.1 gs) (b.1 ∙ ap (λ (gs : List LinForm). 1 + met_of (forms_met facts t.0) f.constant ts t.1 gs) e),
+      )
+
+  pub one_is : (g : LinForm) → choices (fact_at facts t.0) t.1 ≡ g ∷ [] →
+      (bound facts n f ≡ bound facts t.0 (plus (form f.constant ts) t.1 g)) × (forms_met facts n f ≡ 1 + forms_met facts t.0 (plus (form f.constant ts) t.1 g))
+  one_is g e = let m = many_are (g ∷ []) e in (m.0, m.1 ∙ ap (λ (k : ℕ). 1 + k) (add-zero _))
+
+pub AreForms-drop : (n i : ℕ) (fs : List LinForm) → AreForms n fs → AreForms n (drop i fs)
+AreForms-drop n zero fs h = h
+AreForms-drop n (suc i) [] h = h
+AreForms-drop n (suc i) (f ∷ fs) h = AreForms-drop n i fs h.1
+
+pub AreForms-at : (n i : ℕ) (fs : List LinForm) (d : LinForm) → AreForms n fs → i < length fs → IsForm n (get_or fs i d)
+AreForms-at n i [] d h p = absurd (omega arith)
+AreForms-at n zero (f ∷ fs) d h p = h.0
+AreForms-at n (suc i) (f ∷ fs) d h p = AreForms-at n i fs d h.1 (omega arith)
+
+pub ok_map : {A E : Type 0} (r : Result A E) (P Q : A → Type 0) → ((a : A) → P a → Q a) → IfOk r P → IfOk r Q
+ok_map (Ok a) P Q f h = f a h
+ok_map (Err e) P Q f h = tt
+
+pub err_map : {A E : Type 0} (r : Result A E) (P Q : E → Type 0) → ((e : E) → P e → Q e) → IfErr r P → IfErr r Q
+err_map (Ok a) P Q f h = tt
+err_map (Err e) P Q f h = f e h
+
+abbrev sum_or : LinForm → Option LinForm
+sum_or p = if within p then Some p else None
+
+pub some_is : (p q : LinForm) → Some q ≡ sum_or p → (q ≡ p) × IsTrue (within q)
+some_is p q e = of_test (within p) refl e where
+  of_test : (t : Bool) → within p ≡ t → Some q ≡ (if t then Some p else None) → (q ≡ p) × IsTrue (within q)
+  of_test true h k = let g : q ≡ p = cc in (g, subst (λ (x : LinForm). IsTrue (within x)) (sym g) h)
+  of_test false h k = absurd (let g : ◌≡◌ {A = Option LinForm} None (Some q) = sym k in cc)
+
+pub none_is : (p : LinForm) → None ≡ sum_or p → within p ≡ false
+none_is p e = of_test (within p) refl e where
+  of_test : (t : Bool) → within p ≡ t → None ≡ (if t then Some p else None) → within p ≡ false
+  of_test true h k = absurd (let g : ◌≡◌ {A = Option LinForm} None (Some p) = k in cc)
+  of_test false h k = h
+
+of_eq : (b : Bool) (x y : ℕ) → 0 < x → 0 < y → 0 < (if b then x else y)
+of_eq true x y p q = p
+of_eq false x y p q = q
+
+pos_step : (facts : List Fact) (n : ℕ) → ((f : LinForm) → 0 < forms_met facts n f) → (c : ℤ) (ts : Terms) → 0 < met_step (forms_met facts n) (fact_at facts n) n c ts
+pos_step facts n ih c [] = ih (form c [])
+pos_step facts n ih c (t ∷ ts) = of_eq (t.0 == n) (1 + met_of (forms_met facts n) c ts t.1 (choices (fact_at facts n) t.1)) (forms_met facts n (form c (t ∷ ts))) (omega arith) (ih (form c (t ∷ ts)))
+
+pub met_pos : (facts : List Fact) (n : ℕ) (f : LinForm) → 0 < forms_met facts n f
+unfolding forms_met
+met_pos facts zero f = omega arith
+met_pos facts (suc n) f = of_test (within f) (pos_step facts n (met_pos facts n) f.constant f.terms) where
+  of_test : (b : Bool) → 0 < met_step (forms_met facts n) (fact_at facts n) n f.constant f.terms → 0 < (if b then met_step (forms_met facts n) (fact_at facts n) n f.constant f.terms else 1)
+  of_test true h = h
+  of_test false h = omega arith
+
+clean : (z : ℤ) → FitsSigned w64 z → to_z w64 (of_z w64 z) ≡ z
+clean z f = to_z-of_z w64 z f
+
+pub clean_sum : (c a n : ℤ) (ts gs : Terms) → FitsSigned w64 c → FitsSigned w64 a → FitsSigned w64 n →
+    plus (form (to_z w64 (of_z w64 c)) ts) (to_z w64 (of_z w64 a)) (form (to_z w64 (of_z w64 n)) gs) ≡ plus (form c ts) a (form n gs)
+clean_sum c a n ts gs f g h =
+    ap (λ (x : ℤ). plus (form x ts) (to_z w64 (of_z w64 a)) (form (to_z w64 (of_z w64 n)) gs)) (clean c f)
+    ∙ ap (λ (x : ℤ). plus (form c ts) x (form (to_z w64 (of_z w64 n)) gs)) (clean a g) ∙ ap (λ (x : ℤ). plus (form c ts) a (form x gs)) (clean n h)
+
+one_more_form : (fs : List LinForm) (i : ℕ) (d : LinForm) → i < length fs → drop i fs ≡ get_or fs i d ∷ drop (i + 1) fs
+one_more_form fs i d h = rw add-one (drop-cons fs i d h)
+
+pub all_but_first : {A : Type 0} (fs : List A) (g : A) → 0 < length fs → g ≡ get_or fs 0 g → fs ≡ g ∷ take (length fs - 1) (drop 1 fs)
+all_but_first (f ∷ fs) g h e = ap (λ x. x ∷ fs) (sym e) ∙ ap (λ x. g ∷ x) (sym (take_all (length (f ∷ fs) - 1) fs (omega arith)))
+all_but_first [] g h e = absurd (omega arith)
+
+pub get_same : {A : Type 0} (xs : List A) (k : ℕ) (d e : A) → k < length xs → get_or xs k d ≡ get_or xs k e
+get_same [] k d e h = absurd (omega arith)
+get_same (x ∷ xs) zero d e h = refl
+get_same (x ∷ xs) (suc k) d e h = get_same xs k d e (omega arith)
+
+pub fact_is : (facts : List Fact) (k : ℕ) (r : Fact) → k < length facts → r ≡ get_or facts k r → fact_at facts k ≡ r
+fact_is facts k r h e = get_same facts k (Extent (pos 0)) r h ∙ sym e
+
+pub terms_are : (ts us : Terms) → ts ≡ us → ¬ (length ts ≡ 0) → us ≡ get_or ts 0 (0, pos 0) ∷ take (length ts - 1) (drop 1 ts)
+terms_are ts us e h = sym e ∙ all_but_first ts (get_or ts 0 (0, pos 0)) (omega arith) (get_same ts 0 _ _ (omega arith))
+
+pub choice_end : (fact : Fact) (l u : LinForm) (s a : ℤ) → fact ≡ Loop l u s → int_lt (pos 0) a ≡ true → choices fact a ≡ loop_end l u s ∷ []
+choice_end fact l u s a e h = ap (λ (x : Fact). choices x a) e ∙ ap (λ (b : Bool). (if b then loop_end l u s else l) ∷ []) h
+
+pub choice_start : (fact : Fact) (l u : LinForm) (s a : ℤ) → fact ≡ Loop l u s → int_lt (pos 0) a ≡ false → choices fact a ≡ l ∷ []
+choice_start fact l u s a e h = ap (λ (x : Fact). choices x a) e ∙ ap (λ (b : Bool). (if b then loop_end l u s else l) ∷ []) h
+
+module _ (facts : List Fact) (atom : ℕ) (c : ℤ) (ts : Terms) (a : ℤ) (items : List LinForm) (i : ℕ) (g : LinForm) (h : i < length items) (is : g ≡ get_or items i g) where
+  opens : drop i items ≡ g ∷ drop (i + 1) items
+  opens = one_more_form items i g h ∙ ap (λ (x : LinForm). x ∷ drop (i + 1) items) (sym is)
+
+  pub each_bound : (one : Bool) (best next new whole : Option ℤ) → fold (join one) best (bounds_of (bound facts atom) c ts a (drop i items)) ≡ whole →
+      next ≡ bound facts atom (plus (form c ts) a g) → new ≡ join one best next → fold (join one) new (bounds_of (bound facts atom) c ts a (drop (i + 1) items)) ≡ whole
+  each_bound one best next new whole e n j =
+      ap (λ (x : Option ℤ). fold (join one) x (bounds_of (bound facts atom) c ts a (drop (i + 1) items))) (j ∙ ap (join one best) n)
+      ∙ ap (λ (x : List LinForm). fold (join one) best (bounds_of (bound facts atom) c ts a x)) (sym opens) ∙ e
+
+  pub each_met : met_of (forms_met facts atom) c ts a (drop i items) ≡ forms_met facts atom (plus (form c ts) a g) + met_of (forms_met facts atom) c ts a (drop (i + 1) items)
+  each_met = ap (met_of (forms_met facts atom) c ts a) opens
+
+pub AreForms-rest : (n : ℕ) (fs : List LinForm) → AreForms n fs → AreForms n (take (length fs - 1) (drop 1 fs))
+AreForms-rest n [] h = tt
+AreForms-rest n (f ∷ fs) h = subst (λ (x : List LinForm). AreForms n x) (sym (take_all (length (f ∷ fs) - 1) fs (omega arith))) h.1

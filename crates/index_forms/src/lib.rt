@@ -1,0 +1,26 @@
+//! Bounds of linear forms whose atoms are loop variables, minima and extents.
+//!
+//! - `LinForm` is a constant and a sum of coefficients times atoms, read as its normal form.
+//! - `Fact` is what is known of one atom, and `Facts::new` makes the `Facts` of all atoms: the k-th
+//!   is that of atom k.
+//! - `upper` and `lower` are bounds by elimination, the greatest atom first. They are sound: whatever
+//!   values agree with the facts, the form's value lies between them.
+//! - `equal` tells whether two forms have the same normal form.
+//!
+//! `specs/Forms.antt` has a form's value, its normal form, the elimination, and what it means that
+//! values agree with facts; `specs/Facts.antt` says which facts may stand together, and
+//! `specs/Same.antt` where coefficients agree. `proofs/Ints.antt` has laws of signed numbers that
+//! other crates may cite.
+#![tactic(auto)]
+
+mod answers;
+mod bounds;
+mod facts;
+mod form;
+mod normal;
+mod plain;
+
+pub use answers::{lower, upper};
+pub use facts::Facts;
+pub use form::{Fact, LinForm};
+pub use normal::equal;
