@@ -39,3 +39,25 @@ pub fn lower(alloc: Global, facts: &Facts, f: &LinForm) -> Result<Option<i64>, M
     let form = normal(f, alloc)?;
     plain_lower(known.as_slice(), &form, alloc)
 }
+
+#[cfg(test)]
+mod tests {
+    use super::{lower, upper};
+    use crate::{Facts, LinForm};
+    use payload_ops::{List, Memory};
+
+    #[test]
+    #[tactic(auto, unfolding(crate::specs::Forms::collected))]
+    fn a_number_is_its_own_bound(rt: HostRuntime) -> Result<(), Memory> {
+        let alloc = rt.alloc();
+        let form = LinForm {
+            constant: 5,
+            terms: List::new(alloc),
+        };
+        if let Some(facts) = Facts::new(List::new(alloc)) {
+            assert_eq!(rt; upper(alloc, &facts, &form)?, Some(5));
+            assert_eq!(rt; lower(alloc, &facts, &form)?, Some(5));
+        }
+        Ok(())
+    }
+}
