@@ -93,12 +93,40 @@ func.func @add(%a: tensor<3xi32>, %b: tensor<3xi32>) -> tensor<3xi32> {
 }
 ";
 
+// A sum whose second input is longer than the first.
+const UNEQUAL: &str = "#id = affine_map<(d0) -> (d0)>
+func.func @add(%a: tensor<3xi32>, %b: tensor<4xi32>) -> tensor<3xi32> {
+  %e = tensor.empty() : tensor<3xi32>
+  %r = linalg.generic {indexing_maps = [#id, #id, #id], iterator_types = [\"parallel\"]} ins(%a, %b : tensor<3xi32>, tensor<4xi32>) outs(%e : tensor<3xi32>) {
+  ^bb0(%x: i32, %y: i32, %z: i32):
+    %s = arith.addi %x, %y : i32
+    linalg.yield %s : i32
+  } -> tensor<3xi32>
+  return %r : tensor<3xi32>
+}
+";
+
+// A quotient, which isn't built.
+const QUOTIENT: &str = "#id = affine_map<(d0) -> (d0)>
+func.func @add(%a: tensor<3xi32>, %b: tensor<3xi32>) -> tensor<3xi32> {
+  %e = tensor.empty() : tensor<3xi32>
+  %r = linalg.generic {indexing_maps = [#id, #id, #id], iterator_types = [\"parallel\"]} ins(%a, %b : tensor<3xi32>, tensor<3xi32>) outs(%e : tensor<3xi32>) {
+  ^bb0(%x: i32, %y: i32, %z: i32):
+    %s = arith.divsi %x, %y : i32
+    linalg.yield %s : i32
+  } -> tensor<3xi32>
+  return %r : tensor<3xi32>
+}
+";
+
 #[test]
 fn texts_are_answered(rt: HostRuntime) -> Result<(), Fail> {
     let alloc = rt.alloc();
     // A text, and what `out` and `err` hold.
     for (text, held, line) in [
         (WRITTEN, TEXT, ""),
+        (UNEQUAL, "", "error: verify V7 at 1\n"),
+        (QUOTIENT, "", "error: 6:10: unsupported\n"),
         ("", "", "error: 1:1: syntax\n"),
         ("?", "", "error: 1:1: byte\n"),
         ("tensor<3xi32 {", "", "error: 1:1: unclosed\n"),
