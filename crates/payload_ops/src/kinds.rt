@@ -45,6 +45,20 @@ pub enum ElemTy {
     Index,
 }
 
+impl ElemTy {
+    ghost use Rattle.payload_ops.specs.Payload.{bits_of};
+
+    /// The width of the type's values.
+    pub fn width(&self) -> Width
+        ensures { result ≡ bits_of self.now }
+    {
+        match self {
+            ElemTy::Int(width) => *width,
+            ElemTy::Index => Width(64),
+        }
+    }
+}
+
 /// The operations of the `arith` dialect on two integers of one type (Arith manual).
 #[derive(Clone, Copy, Debug, PartialEq, Eq)]
 pub enum BinOp {

@@ -36,7 +36,7 @@ impl Name {
     {
         match std::str::from_utf8(bytes) {
             Ok(text) => Name::new(alloc, text),
-            Err(_) => Err(Memory),
+            Err(_) => unreachable!(),
         }
     }
 
