@@ -1,13 +1,9 @@
 -- Adding numbers to a set, some after the others.
 use Rattle.std.proofs.Common.{◌≡◌, ℕ, Bool, true, false, List, [], ◌∷◌, ◌++◌, append_assoc, append-nil, refl, ap, sym, ◌∙◌, subst, Option, Some, None, Result, Ok, Err}
 use Rattle.std.specs.Prelude.{◌||◌}
-use Rattle.std.specs.List.{cons_option}
 use Rattle.std.specs.BTreeSet.{BTreeSet}
 use Rattle.payload_ops.specs.declared.memory.Memory.{Memory}
-use Rattle.affine_maps.specs.declared.map.Expr.{Expr}
 use Rattle.mlir_verify.specs.Names.{is_among, repeats}
-use Rattle.mlir_verify.specs.Built.{dimension}
-use Rattle.mlir_verify.specs.Maps.{dimensions}
 use Rattle.mlir_verify.specs.Scope.{IsSet, Adds}
 
 or-assoc : (a b c : Bool) → (a || (b || c)) ≡ ((a || b) || c)
@@ -66,10 +62,3 @@ adding_stops s new ns rest all known true t h w = absurd (let q : true ≡ false
 
 pub adding_ends : (s : BTreeSet ℕ) (all known : List ℕ) → Adding s [] all known → Adds (Ok true) s all known
 adding_ends s all known w = (sym w.same, set_at s w.now (known ++ all) (sym (append-nil w.now) ∙ w.whole) w.says)
-
-cons_option-split : (o : Option ℕ) (xs : List ℕ) → cons_option o xs ≡ cons_option o [] ++ xs
-cons_option-split None xs = refl
-cons_option-split (Some x) xs = refl
-
-pub dimensions-cons : (e : Expr) (es : List Expr) → dimensions (e ∷ es) ≡ dimensions (e ∷ []) ++ dimensions es
-dimensions-cons e es = cons_option-split (dimension e) (dimensions es)

@@ -6,6 +6,7 @@ use Rattle.std.specs.BTreeMap.{BTreeMap}
 use Rattle.std.specs.BTreeSet.{BTreeSet}
 use Rattle.payload_ops.specs.declared.memory.Memory.{Memory}
 use Rattle.affine_maps.specs.Shape.{MapShape}
+use Rattle.affine_maps.specs.Permutation.{is_projected_permutation}
 use Rattle.mlir_ir.specs.declared.tree.Extent.{Extent}
 use Rattle.mlir_ir.specs.declared.tree.Iter.{Iter}
 use Rattle.mlir_ir.specs.declared.tree.Ty.{Ty}
@@ -14,7 +15,7 @@ use Rattle.mlir_verify.specs.declared.rule.Rule.{Rule}
 use Rattle.mlir_verify.specs.declared.rule.Rule.TheVariants.{V5, V7}
 use Rattle.mlir_verify.specs.Place.{Types}
 use Rattle.mlir_verify.specs.Types.{result_type}
-use Rattle.mlir_verify.specs.Maps.{Axis, axes, extent_of, fits_operand, fit_operands, cover_dimensions, match_output, is_iterator, is_projected_permutation, on_output, output_map, output_dimensions}
+use Rattle.mlir_verify.specs.Maps.{Axis, axes, extent_of, fits_operand, fit_operands, cover_dimensions, match_output, is_iterator, on_output, output_map, output_dimensions}
 use Rattle.mlir_verify.specs.Extents.{axes_agree, has_extent, has_extents_of}
 use Rattle.mlir_verify.specs.Scope.{IsSet}
 use Rattle.mlir_verify.specs.Stages.{FitsOperands, IsPermuted, broken_generic, lowest_loop_rule, extent_in, is_in}

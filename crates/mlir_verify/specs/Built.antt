@@ -1,10 +1,9 @@
 -- What this verifier covers: the operations `tensor.empty`, `linalg.generic` and `return`, on tensors of one fixed axis.
 -- Anything else breaks V2, so that no module is called verified before all of its rules are tested.
-use Rattle.std.specs.Prelude.{ℕ, ◌==◌, ◌&&◌, ◌||◌, not, is_some, Bool, true, false, ℤ, pos, List, [], ◌∷◌, length, Option, Some, None, if◌then◌else◌}
-use Rattle.std.specs.Ordering.{int_eq}
+use Rattle.std.specs.Prelude.{ℕ, ◌==◌, ◌&&◌, ◌||◌, not, is_some, Bool, true, false, List, [], ◌∷◌, length}
 use Rattle.std.specs.List.{list_all}
 use Rattle.affine_maps.specs.Shape.{MapShape}
-use Rattle.affine_maps.specs.declared.map.Expr.{Expr}
+use Rattle.affine_maps.specs.Permutation.{dimension_of}
 use Rattle.mlir_ir.specs.Shape.{FuncShape}
 use Rattle.mlir_ir.specs.declared.tree.Op.{Op}
 use Rattle.mlir_ir.specs.declared.tree.OpKind.{OpKind, Empty, Generic, Return}
@@ -13,16 +12,6 @@ use Rattle.mlir_ir.specs.declared.tree.Extent.TheVariants.{Fixed, Any}
 use Rattle.mlir_ir.specs.declared.tree.Ty.{Ty}
 use Rattle.mlir_ir.specs.declared.tree.Ty.TheVariants.{Scalar, Tensor, Vector}
 use Rattle.mlir_verify.specs.Place.{Place, is_first}
-
--- the dimension of a term with the coefficient 1
-abbrev pub lone_dimension : List (ℕ × ℤ) → Option ℕ
-lone_dimension [] = None
-lone_dimension (t ∷ []) = if int_eq t.1 (pos 1) then Some t.0 else None
-lone_dimension (t ∷ u ∷ ts) = None
-
--- the dimension that an expression is alone
-abbrev pub dimension : Expr → Option ℕ
-dimension e = if int_eq e.constant (pos 0) then lone_dimension e.terms else None
 
 abbrev pub is_fixed : Extent → Bool
 is_fixed (Fixed n) = true
@@ -49,7 +38,7 @@ is_built_signature t = not (is_fixed_tensor t) || rank t == 1
 
 -- each result of the map is one dimension alone
 abbrev pub is_built_map : MapShape → Bool
-is_built_map m = list_all (λ e. is_some (dimension e)) m.results
+is_built_map m = list_all (λ e. is_some (dimension_of e)) m.results
 
 abbrev pub is_built_kind : OpKind → Bool
 is_built_kind (Empty sizes) = true

@@ -3,6 +3,7 @@
 use Rattle.std.specs.Prelude.{ℕ, ◌==◌, ◌&&◌, not, is_some, int_le, Bool, false, pos, List, [], ◌∷◌, ◌++◌, length, Option, Some, None, slice_get, ◌-◌, if◌then◌else◌}
 use Rattle.std.specs.List.{list_all, zip, flat_map, filter_map, enumerate_from}
 use Rattle.affine_maps.specs.Shape.{MapShape}
+use Rattle.affine_maps.specs.Permutation.{dimension_of, dimensions_of, is_projected_permutation}
 use Rattle.affine_maps.specs.declared.map.Expr.{Expr}
 use Rattle.mlir_ir.specs.declared.tree.Extent.{Extent}
 use Rattle.mlir_ir.specs.declared.tree.Iter.{Iter}
@@ -12,8 +13,7 @@ use Rattle.mlir_ir.specs.declared.tree.Ty.{Ty}
 use Rattle.mlir_ir.specs.declared.tree.Ty.TheVariants.{Tensor}
 use Rattle.mlir_ir.specs.declared.tree.ValueId.{ValueId}
 use Rattle.mlir_verify.specs.Place.{Types}
-use Rattle.mlir_verify.specs.Names.{is_among, repeats}
-use Rattle.mlir_verify.specs.Built.{dimension}
+use Rattle.mlir_verify.specs.Names.{is_among}
 
 -- the extents of a tensor
 abbrev pub extents_of : Option Ty → List Extent
@@ -31,20 +31,12 @@ is_not_negative e = int_le (pos 0) e.constant && list_all (λ t. int_le (pos 0) 
 abbrev pub fits_operand : ℕ → MapShape → Option Ty → Bool
 fits_operand dims m ty = (m.dims == dims && length m.results == length (extents_of ty)) && list_all is_not_negative m.results
 
--- the dimensions that a map's results are alone
-abbrev pub dimensions : List Expr → List ℕ
-dimensions = filter_map dimension
-
--- each result is one dimension alone, and none repeats
-abbrev pub is_projected_permutation : MapShape → Bool
-is_projected_permutation m = list_all (λ e. is_some (dimension e)) m.results && not (repeats (dimensions m.results) [])
-
 -- an axis of an operand that one dimension alone selects: that dimension, and the axis's extent
 abbrev pub Axis : Type 0
 Axis = ℕ × Extent
 
 abbrev pub axis : Expr × Extent → Option Axis
-axis x = elim (dimension x.0) as (λ _. Option Axis) [ None ↦ None | Some d ↦ Some (d, x.1) ]
+axis x = elim (dimension_of x.0) as (λ _. Option Axis) [ None ↦ None | Some d ↦ Some (d, x.1) ]
 
 abbrev pub operand_axes : MapShape → Option Ty → List Axis
 operand_axes m ty = filter_map axis (zip m.results (extents_of ty))
@@ -86,7 +78,7 @@ is_iterator Reduction in_output = not in_output
 
 abbrev pub output_dimensions : Option MapShape → List ℕ
 output_dimensions None = []
-output_dimensions (Some m) = dimensions m.results
+output_dimensions (Some m) = dimensions_of m.results
 
 -- a dimension is parallel exactly where the output's map has it
 unfoldable pub match_output : List MapShape → List Iter → Bool

@@ -18,14 +18,15 @@ use Rattle.mlir_verify.specs.declared.rule.Rule.TheVariants.{V2, V3, V4, V5, V6,
 use Rattle.mlir_verify.specs.Place.{Types}
 use Rattle.mlir_verify.specs.Built.{is_built_op, is_built_func}
 use Rattle.mlir_verify.specs.Types.{is_typed, is_return, has_fixed_signature, result_type}
-use Rattle.mlir_verify.specs.Maps.{dimensions, is_projected_permutation, axes, output_map, output_dimensions, fit_operands, cover_dimensions, match_output, breaks_maps, breaks_iterators}
+use Rattle.affine_maps.specs.Permutation.{dimensions_of, is_projected_permutation}
+use Rattle.mlir_verify.specs.Maps.{axes, output_map, output_dimensions, fit_operands, cover_dimensions, match_output, breaks_maps, breaks_iterators}
 use Rattle.mlir_verify.specs.Extents.{axes_agree, has_extents_of, breaks_extents}
 use Rattle.mlir_verify.specs.Scope.{IsSet}
 
 -- the dimensions of a projected permutation, or none for another map
 abbrev pub IsPermuted : Option (BTreeSet ℕ) → MapShape → Type 0
 IsPermuted None m = is_projected_permutation m ≡ false
-IsPermuted (Some s) m = (is_projected_permutation m ≡ true) × IsSet s (dimensions m.results)
+IsPermuted (Some s) m = (is_projected_permutation m ≡ true) × IsSet s (dimensions_of m.results)
 
 abbrev pub is_in : BTreeSet ℕ → ℕ → Bool
 is_in s d = sorted.contains nat_cmp s d

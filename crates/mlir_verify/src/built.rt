@@ -1,30 +1,10 @@
 ghost use Rattle.std.specs.Prelude.{◌≡◌, ◌&&◌, ◌||◌, not};
 ghost use Rattle.std.specs.List.{list_all};
-ghost use Rattle.mlir_verify.specs.Built.{lone_dimension, dimension, is_fixed, is_fixed_tensor, rank, is_built_result, is_built_signature, is_built_map, is_built_kind, is_built_op, is_built_func};
+ghost use Rattle.mlir_verify.specs.Built.{is_fixed, is_fixed_tensor, rank, is_built_result, is_built_signature, is_built_map, is_built_kind, is_built_op, is_built_func};
 ghost use Rattle.mlir_verify.specs.Types.{has_fixed_signature};
 
-use affine_maps::{AffineMap, Expr};
+use affine_maps::AffineMap;
 use mlir_ir::{Extent, Func, Op, OpKind, Ty, ValueId};
-
-fn lone_dimension(terms: &[(u32, i64)]) -> Option<u32>
-    ensures { result ≡ lone_dimension terms.now }
-{
-    match terms {
-        [term] if term.1 == 1 => Some(term.0),
-        _ => None,
-    }
-}
-
-/// The dimension that an expression is alone.
-pub(crate) fn dimension(e: &Expr) -> Option<u32>
-    ensures { result ≡ dimension e.now }
-{
-    if e.constant == 0 {
-        lone_dimension(e.terms.as_slice())
-    } else {
-        None
-    }
-}
 
 fn are_fixed(extents: &[Extent]) -> bool
     ensures { result ≡ list_all is_fixed extents.now }
@@ -70,7 +50,7 @@ pub(crate) fn is_built_map(m: &AffineMap) -> bool
     m.results()
         .as_slice()
         .iter()
-        .all(|e| dimension(e).is_some())
+        .all(|e| e.dimension().is_some())
 }
 
 fn are_built_maps(maps: &[AffineMap]) -> bool

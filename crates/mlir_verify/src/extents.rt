@@ -6,7 +6,6 @@ ghost use Rattle.mlir_verify.specs.Extents.{is_same_extent, has_extent, are_same
 ghost use Rattle.mlir_verify.specs.Scope.{types_in};
 ghost use Rattle.mlir_verify.specs.Stages.{extent_in};
 
-use crate::built::dimension;
 use crate::maps::extents_of;
 use crate::scope::Scope;
 use affine_maps::{AffineMap, Expr};
@@ -57,7 +56,7 @@ pub(crate) fn have_extents_of(scope: &Scope, values: &[ValueId], wanted: &[Ty]) 
 fn push_axis(axes: &mut Vec<(usize, Extent)>, e: &Expr, x: Extent) -> Result<(), Memory>
     ensures { OnOk result (axes.new.items ≡ axes.old.items ++ cons_option (axis (e.now, x)) []) }
 {
-    match dimension(e) {
+    match e.dimension() {
         Some(d) => match axes.push((d as usize, x)) {
             Ok(()) => Ok(()),
             Err(_) => Err(Memory),

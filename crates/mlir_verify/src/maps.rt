@@ -1,10 +1,10 @@
-ghost use Rattle.std.specs.Prelude.{◌≡◌, ℕ, List, [], ◌∷◌, pos, int_le, IfOk, option_copied};
+ghost use Rattle.std.specs.Prelude.{◌≡◌, ℕ, List, [], ◌∷◌, ◌++◌, pos, int_le, IfOk, OnOk, option_copied};
 ghost use Rattle.std.specs.List.{list_all, zip, enumerate_from};
-ghost use Rattle.mlir_verify.specs.Maps.{extents_of, is_not_negative, fits_operand, is_iterator, dimensions};
-ghost use Rattle.mlir_verify.specs.Scope.{types_in, IsSet, Adds};
+ghost use Rattle.mlir_verify.specs.Maps.{extents_of, is_not_negative, fits_operand, is_iterator};
+ghost use Rattle.affine_maps.specs.Permutation.{dimensions_of};
+ghost use Rattle.mlir_verify.specs.Scope.{types_in, IsSet};
 ghost use Rattle.mlir_verify.specs.Stages.{IsPermuted, is_in};
 
-use crate::built::{dimension, is_built_map};
 use crate::scope::Scope;
 use affine_maps::{AffineMap, Expr};
 use mlir_ir::{Extent, Iter, Ty, ValueId};
@@ -57,31 +57,28 @@ pub(crate) fn fit_inputs(scope: &Scope, dims: usize, ins: &[ValueId], maps: &[Af
         .all(|(v, m)| fits_operand(dims, m, scope.type_of(*v)))
 }
 
-/// Adds the dimension that an expression is alone, if any; false where it is there.
-fn add_dimension(set: &mut BTreeSet<usize>, e: &Expr) -> Result<bool, Memory>
-    ensures { (known : List ℕ) → IsSet set.old known → Adds result set.new (dimensions (e.now ∷ [])) known }
+/// Adds the dimension that an expression is alone, if any.
+fn add_dimension(set: &mut BTreeSet<usize>, e: &Expr) -> Result<(), Memory>
+    ensures { OnOk result ((known : List ℕ) → IsSet set.old known → IsSet set.new (known ++ dimensions_of (e.now ∷ []))) }
 {
-    match dimension(e) {
+    match e.dimension() {
         Some(d) => match set.insert(d as usize) {
-            Ok(added) => Ok(added),
+            Ok(_) => Ok(()),
             Err(_) => Err(Memory),
         },
-        None => Ok(true),
+        None => Ok(()),
     }
 }
 
-/// Adds the dimensions that these expressions are alone; false where one is there or stands twice.
-fn add_dimensions(set: &mut BTreeSet<usize>, results: &[Expr]) -> Result<bool, Memory>
-    ensures { (known : List ℕ) → IsSet set.old known → Adds result set.new (dimensions results.now) known }
+/// The dimensions that these expressions are alone.
+fn dimensions(alloc: Global, results: &[Expr]) -> Result<BTreeSet<usize>, Memory>
+    ensures { IfOk result (λ set. IsSet set (dimensions_of results.now)) }
 {
+    let mut set = BTreeSet::new(alloc);
     for e in results {
-        match add_dimension(set, e) {
-            Ok(true) => {}
-            Ok(false) => return Ok(false),
-            Err(e) => return Err(e),
-        }
+        add_dimension(&mut set, e)?;
     }
-    Ok(true)
+    Ok(set)
 }
 
 /// The dimensions of a map that is a projected permutation.
@@ -91,13 +88,12 @@ pub(crate) fn permuted_dimensions(
 ) -> Result<Option<BTreeSet<usize>>, Memory>
     ensures { IfOk result (λ found. IsPermuted found m.now) }
 {
-    if !is_built_map(m) {
+    if !m.is_projected_permutation() {
         return Ok(None);
     }
-    let mut dims = BTreeSet::new(alloc);
-    match add_dimensions(&mut dims, m.results().as_slice()) {
-        Ok(true) => Ok(Some(dims)),
-        Ok(false) => Ok(None),
+    let results = m.results();
+    match dimensions(alloc, results.as_slice()) {
+        Ok(set) => Ok(Some(set)),
         Err(e) => Err(e),
     }
 }
