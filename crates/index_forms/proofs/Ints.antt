@@ -1,10 +1,10 @@
 -- Laws of signed numbers and of tests.
-use Rattle.std.proofs.Common.{◌≡◌, ℕ, ◌+◌, ◌*◌, ◌<◌, ◌≤◌, ℤ, pos, negsuc, ◌+ℤ◌, ◌-ℤ◌, ◌*ℤ◌, ◌≤ℤ◌, ◌<ℤ◌, int_le, int_div, nat_lt, Bool, true, false, ◌&&◌, IsTrue, FitsSigned, w64, refl, ap, sym, arith, unsigned_abs, suc, zero}
+use Rattle.std.proofs.Common.{◌≡◌, ℕ, ◌+◌, ◌*◌, ◌<◌, ◌≤◌, ℤ, pos, negsuc, ◌+ℤ◌, ◌-ℤ◌, ◌*ℤ◌, ◌≤ℤ◌, ◌<ℤ◌, int_le, int_div, nat_lt, Bool, true, false, ◌&&◌, IsTrue, FitsSigned, w64, refl, sym, arith, unsigned_abs, suc, zero}
 use Rattle.std.proofs.lemmas.Int.{ints, unsigned_abs-mul}
 use Rattle.std.proofs.lemmas.Nat.{mul-le, le-div}
 use Rattle.std.proofs.lemmas.Bool.Decides.{nat_tests}
 use Rattle.std.proofs.Math.Nat.{mul-le-mul_left, mul-le-mul_right}
-use borrow.Author.Differences.{up, down, product_is, sum_is_lem}
+use borrow.Author.Differences.{up, down}
 use Rattle.index_forms.specs.Forms.{in_limit}
 
 pub and_left : (a b : Bool) → IsTrue (a && b) → IsTrue a
@@ -47,32 +47,6 @@ fits_abs (negsuc n) h = omega (arith, ints)
 
 pub product_abs : (a b : ℤ) → FitsSigned w64 a → FitsSigned w64 b → unsigned_abs (a *ℤ b) ≤ 85070591730234615865843651857942052864
 product_abs a b h k = let e = unsigned_abs-mul a b in let m = mul-le _ _ _ _ (fits_abs a h) (fits_abs b k) in omega arith
-
-pub mul_over_add : (a b c : ℤ) → (a +ℤ b) *ℤ c ≡ a *ℤ c +ℤ b *ℤ c
-mul_over_add a b c =
-    let e = ap (λ (n : ℕ). n * up c) (sum_is_lem a b) in
-    let f = ap (λ (n : ℕ). n * down c) (sum_is_lem a b) in
-    omega (arith, ints)
-
-pub add_over_mul : (a b c : ℤ) → a *ℤ (b +ℤ c) ≡ a *ℤ b +ℤ a *ℤ c
-add_over_mul a b c =
-    let e = ap (λ (n : ℕ). n * up a) (sum_is_lem b c) in
-    let f = ap (λ (n : ℕ). n * down a) (sum_is_lem b c) in
-    omega (arith, ints)
-
-pub mul_assoc : (a b c : ℤ) → (a *ℤ b) *ℤ c ≡ a *ℤ (b *ℤ c)
-mul_assoc a b c =
-    let p = product_is a b in
-    let q = product_is b c in
-    let e = ap (λ (n : ℕ). n * up c) p.0 in
-    let f = ap (λ (n : ℕ). n * down c) p.0 in
-    let g = ap (λ (n : ℕ). n * up c) p.1 in
-    let h = ap (λ (n : ℕ). n * down c) p.1 in
-    let i = ap (λ (n : ℕ). n * up a) q.0 in
-    let j = ap (λ (n : ℕ). n * down a) q.0 in
-    let k = ap (λ (n : ℕ). n * up a) q.1 in
-    let l = ap (λ (n : ℕ). n * down a) q.1 in
-    omega (arith, ints)
 
 pub mul_le_pos : (a b c : ℤ) → pos 0 ≤ℤ a → b ≤ℤ c → (a *ℤ b) ≤ℤ (a *ℤ c)
 mul_le_pos (pos a) b c p h =

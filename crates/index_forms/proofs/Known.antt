@@ -5,7 +5,7 @@ use Rattle.index_forms.specs.declared.form.LinForm.{LinForm}
 use Rattle.index_forms.specs.declared.form.Fact.{Fact}
 use Rattle.index_forms.specs.declared.form.Fact.TheVariants.{Loop, Least, Extent}
 use Rattle.index_forms.specs.Forms.{normal, number, within, AreForms, IsFact, AreFacts, fact_at, AtMost, OneOf, Holds, Agrees, IsAbove, IsBelow, upper_of, lower_of, negated, negated_bound, forms_met, bound}
-use Rattle.index_forms.specs.Facts.{normal_fact, normal_facts, AllIn, FactIn, FactsIn, FactsFrom}
+use Rattle.index_forms.specs.Facts.{normal_fact, normal_facts, AllIn, FactIn, FactsFrom}
 use Rattle.index_forms.proofs.Collected.{value_normal}
 use Rattle.index_forms.proofs.Walks.{bound_out}
 use Rattle.index_forms.proofs.Negative.{within_back}
@@ -20,14 +20,10 @@ all_in : (n : ℕ) (fs : List LinForm) → AreForms n fs → AllIn fs
 all_in n [] h = tt
 all_in n (f ∷ fs) h = (h.0.1, all_in n fs h.1)
 
-fact_in : (n : ℕ) (f : Fact) → IsFact n (normal_fact f) → FactIn (normal_fact f)
+pub fact_in : (n : ℕ) (f : Fact) → IsFact n (normal_fact f) → FactIn (normal_fact f)
 fact_in n (Loop lower upper step) h = (h.0.1, h.1.1)
 fact_in n (Least terms) h = all_in n (map normal terms) h.1
 fact_in n (Extent most) h = tt
-
-pub facts_in : (n : ℕ) (fs : List Fact) → FactsFrom n fs → FactsIn (normal_facts fs)
-facts_in n [] h = tt
-facts_in n (f ∷ fs) h = (fact_in n f h.0, facts_in (suc n) fs h.1)
 
 facts_at : (n : ℕ) (fs : List Fact) → FactsFrom n fs → (k : ℕ) → k < length (normal_facts fs) → IsFact (n + k) (fact_at (normal_facts fs) k)
 facts_at n [] h k p = absurd (omega arith)
@@ -40,6 +36,11 @@ are_facts fs h k p = subst (λ (m : ℕ). IsFact m (fact_at (normal_facts fs) k)
 pub same_length : (fs : List Fact) → length (normal_facts fs) ≡ length fs
 same_length [] = refl
 same_length (f ∷ fs) = ap suc (same_length fs)
+
+pub fact_of : (fs : List Fact) (k : ℕ) → k < length fs → fact_at (normal_facts fs) k ≡ normal_fact (fact_at fs k)
+fact_of [] k h = absurd (omega arith)
+fact_of (f ∷ fs) zero h = refl
+fact_of (f ∷ fs) (suc k) h = fact_of fs k (omega arith)
 
 module _ (env : ℕ → ℤ) where
   at_most : (v : ℤ) (gs : List LinForm) → AtMost v gs env → AtMost v (map normal gs) env
@@ -54,11 +55,6 @@ module _ (env : ℕ → ℤ) where
   holds (Loop lower upper step) v h = ((h.0.0, h.0.1 ∙ ap (λ (z : ℤ). z +ℤ pos h.0.0 *ℤ step) (sym (value_normal env lower))), subst (λ (z : ℤ). v <ℤ z) (sym (value_normal env upper)) h.1)
   holds (Least terms) v h = (at_most v terms h.0, one_of v terms h.1)
   holds (Extent most) v h = h
-
-  fact_of : (fs : List Fact) (k : ℕ) → k < length fs → fact_at (normal_facts fs) k ≡ normal_fact (fact_at fs k)
-  fact_of [] k h = absurd (omega arith)
-  fact_of (f ∷ fs) zero h = refl
-  fact_of (f ∷ fs) (suc k) h = fact_of fs k (omega arith)
 
   agrees : (fs : List Fact) → Agrees fs env → Agrees (normal_facts fs) env
   agrees fs h k p = let l = same_length fs in subst (λ (f : Fact). Holds f (env k) env) (sym (fact_of fs k (omega arith))) (holds (fact_at fs k) (env k) (h k (omega arith)))

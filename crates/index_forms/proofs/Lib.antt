@@ -1,8 +1,10 @@
 pub mod Ints
 pub mod Values
 pub mod Sound
-pub mod Merge
+pub mod Limits
 pub mod Walks
 pub mod Negative
 pub mod Collected
 pub mod Known
+pub mod Gathered
+pub mod Sums

@@ -4,7 +4,7 @@ use Rattle.std.proofs.lemmas.Int.{ints}
 use Rattle.index_forms.specs.declared.form.LinForm.{LinForm}
 use Rattle.index_forms.specs.Forms.{in_limit, all_in, within, scaled, negated}
 use Rattle.index_forms.proofs.Ints.{and_left, and_right, and_both, limit_low, limit_high, limit_in}
-use Rattle.index_forms.proofs.Merge.{Terms}
+use Rattle.index_forms.proofs.Limits.{Terms}
 
 pub turned_in : (z y : ℤ) → y ≡ pos 0 -ℤ z → IsTrue (in_limit z) → IsTrue (in_limit y)
 turned_in z y e h = let l = limit_low z h in let k = limit_high z h in limit_in y (omega (arith, ints)) (omega (arith, ints))

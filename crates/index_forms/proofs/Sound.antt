@@ -9,8 +9,9 @@ use Rattle.index_forms.specs.declared.form.Fact.{Fact}
 use Rattle.index_forms.specs.declared.form.Fact.TheVariants.{Loop, Least, Extent}
 use Rattle.index_forms.specs.Forms.{terms_value, value_of, form, number, plus, within, choices, loop_end, join, combined, ended, bounds_of, bound, bound_step, fact_at, AtMost, OneOf, Holds, Agrees, AreFacts, IsFact, upper_of, lower_of, negated, negated_bound, forms_met, IsAbove, IsBelow}
 use Rattle.index_forms.proofs.Ints.{mul_le_pos, mul_le_neg, last_below}
-use Rattle.index_forms.proofs.Merge.{checked_some}
-use Rattle.index_forms.proofs.Values.{value-plus, value-scaled}
+use Rattle.index_forms.proofs.Limits.{checked_some}
+use Rattle.index_forms.proofs.Values.{value-scaled}
+use Rattle.index_forms.proofs.Sums.{value-plus}
 
 no_bound : (b : ℤ) → ¬ (◌≡◌ {A = Option ℤ} None (Some b))
 no_bound b e = cc

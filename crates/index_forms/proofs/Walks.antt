@@ -1,5 +1,5 @@
 -- What one step of the elimination does.
-use Rattle.std.proofs.Common.{◌≡◌, ℕ, ◌+◌, ◌<◌, ◌≤◌, ◌==◌, ℤ, pos, negsuc, ◌+ℤ◌, ◌*ℤ◌, int_lt, Bool, true, false, List, [], ◌∷◌, length, drop, get_or, refl, ap, sym, ◌∙◌, subst, arith, suc, zero, IsTrue, add-one, Option, Some, None, ◌⊎◌, inl, inr, add-zero, Result, Ok, Err, IfOk, IfErr, FitsSigned, w64, to_z, of_z, take, ◌-◌}
+use Rattle.std.proofs.Common.{◌≡◌, ℕ, ◌+◌, ◌<◌, ◌≤◌, ◌==◌, ℤ, pos, negsuc, int_lt, Bool, true, false, List, [], ◌∷◌, length, drop, get_or, refl, ap, sym, ◌∙◌, subst, arith, suc, zero, IsTrue, add-one, Option, Some, None, ◌⊎◌, inl, inr, add-zero, Result, Ok, Err, IfOk, IfErr, FitsSigned, w64, to_z, of_z, take, ◌-◌}
 use Rattle.std.specs.List.{fold}
 use Rattle.std.proofs.lemmas.List.{take_all}
 use Rattle.std.proofs.lemmas.Int.{to_z-of_z}
@@ -10,9 +10,9 @@ use Rattle.std.proofs.Math.Seq.{drop-cons}
 use Rattle.index_forms.specs.declared.form.LinForm.{LinForm}
 use Rattle.index_forms.specs.declared.form.Fact.{Fact}
 use Rattle.index_forms.specs.declared.form.Fact.TheVariants.{Loop, Extent}
-use Rattle.index_forms.specs.Forms.{form, keep, scaled, merge_at, merge, plus, within, all_in, in_limit, Falls, ended, bound, bound_step, forms_met, met_step, bounds_of, met_of, join, combined, choices, loop_end, fact_at, AreForms, IsForm}
-use Rattle.index_forms.proofs.Ints.{split_lt, and_right}
-use Rattle.index_forms.proofs.Merge.{Terms}
+use Rattle.index_forms.specs.Forms.{form, keep, scaled, plus, within, all_in, in_limit, Falls, ended, bound, bound_step, forms_met, met_step, bounds_of, met_of, join, combined, choices, loop_end, fact_at, AreForms, IsForm}
+use Rattle.index_forms.proofs.Ints.{and_right}
+use Rattle.index_forms.proofs.Limits.{Terms}
 
 pub falls_more : (m n : ℕ) (ts : Terms) → m ≤ n → Falls m ts → Falls n ts
 falls_more m n [] h f = f
@@ -26,20 +26,6 @@ falls_keep n k (negsuc z) ts h f = (h, f)
 pub falls_scaled : (n : ℕ) (c : ℤ) (ts : Terms) → Falls n ts → Falls n (scaled c ts)
 falls_scaled n c [] f = f
 falls_scaled n c (t ∷ ts) f = (f.0, falls_scaled t.0 c ts f.1)
-
-falls_merge_at : (c : ℤ) (k : ℕ) (z : ℤ) (rest : Terms → Terms) → ((m : ℕ) (gs : Terms) → k ≤ m → Falls m gs → Falls m (rest gs)) → ((gs : Terms) → Falls k gs → Falls k (rest gs)) →
-    (n : ℕ) (gs : Terms) → k < n → Falls n gs → Falls n (merge_at c k z rest gs)
-falls_merge_at c k z rest more h n [] p f = (p, h [] tt)
-falls_merge_at c k z rest more h n (g ∷ gs) p f =
-    split_lt (λ x y. Falls n (if x then (k, z) ∷ rest (g ∷ gs) else (if y then (g.0, c *ℤ g.1) ∷ merge_at c k z rest gs else keep k (z +ℤ c *ℤ g.1) (rest gs)))) g.0 k
-    (λ q. (p, h (g ∷ gs) (q, f.1)))
-    (λ q. (f.0, falls_merge_at c k z rest more h g.0 gs q f.1))
-    (λ q. falls_keep n k (z +ℤ c *ℤ g.1) (rest gs) p (h gs (subst (λ (j : ℕ). Falls j gs) q f.1)))
-
-pub falls_merge : (n : ℕ) (c : ℤ) (ts gs : Terms) → Falls n ts → Falls n gs → Falls n (merge c ts gs)
-falls_merge n c [] gs f h = falls_scaled n c gs h
-falls_merge n c (t ∷ ts) gs f h =
-    falls_merge_at c t.0 t.1 (merge c ts) (λ m hs p q. falls_merge m c ts hs (falls_more t.0 m ts p f.1) q) (λ hs q. falls_merge t.0 c ts hs f.1 q) n gs f.0 h
 
 module _ (facts : List Fact) where
   bound_open : (k : ℕ) (f : LinForm) → IsTrue (within f) → bound facts (suc k) f ≡ bound_step (bound facts k) (fact_at facts k) k f.constant f.terms

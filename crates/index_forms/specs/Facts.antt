@@ -23,10 +23,6 @@ FactIn (Loop lower upper step) = IsTrue (within lower) × IsTrue (within upper)
 FactIn (Least terms) = AllIn terms
 FactIn (Extent most) = ⊤
 
-abbrev pub FactsIn : List Fact → Type 0
-FactsIn [] = ⊤
-FactsIn (f ∷ fs) = FactIn f × FactsIn fs
-
 -- each fact, the first one that of the n-th atom, speaks of earlier atoms alone
 abbrev pub FactsFrom : ℕ → List Fact → Type 0
 FactsFrom n [] = ⊤

@@ -1,5 +1,5 @@
 -- Linear forms, what is known of their atoms, and the bounds that follow by elimination.
-use Rattle.std.specs.Prelude.{ℕ, zero, suc, ◌+◌, ◌<◌, ◌==◌, ◌&&◌, nat_lt, nat_le, max, Bool, true, false, ℤ, pos, negsuc, neg_ℤ, ◌+ℤ◌, ◌-ℤ◌, ◌*ℤ◌, ◌<ℤ◌, ◌≤ℤ◌, int_lt, int_le, int_div, ◌≡◌, List, [], ◌∷◌, length, slice_index_or, Option, Some, None, if◌then◌else◌, IsTrue, ⊤, ◌⊎◌}
+use Rattle.std.specs.Prelude.{ℕ, zero, suc, ◌+◌, ◌<◌, ◌==◌, ◌&&◌, nat_le, max, Bool, true, false, ℤ, pos, negsuc, neg_ℤ, ◌+ℤ◌, ◌-ℤ◌, ◌*ℤ◌, ◌<ℤ◌, ◌≤ℤ◌, int_lt, int_le, int_div, ◌≡◌, List, [], ◌∷◌, length, slice_index_or, Option, Some, None, if◌then◌else◌, IsTrue, ⊤, ◌⊎◌}
 use Rattle.std.specs.Int.{int_min, int_max}
 use Rattle.std.specs.List.{fold}
 use Rattle.index_forms.specs.declared.form.LinForm.{LinForm}
@@ -20,7 +20,8 @@ form c ts = record { constant = c; terms = ts }
 abbrev pub number : ℤ → LinForm
 number c = record { constant = c; terms = [] }
 
--- SUMS of forms whose atoms fall
+-- TERMS
+-- a coefficient 0 has no term
 abbrev pub keep : ℕ → ℤ → List (ℕ × ℤ) → List (ℕ × ℤ)
 keep k (pos zero) ts = ts
 keep k (pos (suc n)) ts = (k, pos (suc n)) ∷ ts
@@ -29,19 +30,6 @@ keep k (negsuc n) ts = (k, negsuc n) ∷ ts
 abbrev pub scaled : ℤ → List (ℕ × ℤ) → List (ℕ × ℤ)
 scaled c [] = []
 scaled c (t ∷ ts) = (t.0, c *ℤ t.1) ∷ scaled c ts
-
-abbrev pub merge_at : ℤ → ℕ → ℤ → (List (ℕ × ℤ) → List (ℕ × ℤ)) → List (ℕ × ℤ) → List (ℕ × ℤ)
-merge_at c k n rest [] = (k, n) ∷ rest []
-merge_at c k n rest (g ∷ gs) =
-    if nat_lt g.0 k then (k, n) ∷ rest (g ∷ gs)
-    else (if nat_lt k g.0 then (g.0, c *ℤ g.1) ∷ merge_at c k n rest gs else keep k (n +ℤ c *ℤ g.1) (rest gs))
-
-abbrev pub merge : ℤ → List (ℕ × ℤ) → List (ℕ × ℤ) → List (ℕ × ℤ)
-merge c [] gs = scaled c gs
-merge c (t ∷ ts) gs = merge_at c t.0 t.1 (merge c ts) gs
-
-abbrev pub plus : LinForm → ℤ → LinForm → LinForm
-plus f c g = form (f.constant +ℤ c *ℤ g.constant) (merge c f.terms g.terms)
 
 -- THE LIMIT of numbers
 abbrev pub in_limit : ℤ → Bool
@@ -67,13 +55,26 @@ abbrev pub top : List (ℕ × ℤ) → ℕ
 top [] = 0
 top (t ∷ ts) = max (suc t.0) (top ts)
 
--- the terms of the atoms below `n`
-unfoldable pub collected : List (ℕ × ℤ) → ℕ → List (ℕ × ℤ)
-collected ts zero = []
-collected ts (suc n) = keep n (coefficient ts n) (collected ts n)
+-- the terms of the atoms below `n`, with these coefficients
+unfoldable pub terms_below : (ℕ → ℤ) → ℕ → List (ℕ × ℤ)
+terms_below coefficients zero = []
+terms_below coefficients (suc n) = keep n (coefficients n) (terms_below coefficients n)
+
+abbrev pub collected : List (ℕ × ℤ) → ℕ → List (ℕ × ℤ)
+collected ts n = terms_below (coefficient ts) n
 
 abbrev pub normal : LinForm → LinForm
 normal f = form f.constant (collected f.terms (top f.terms))
+
+-- SUMS: in f + c * g each atom has the coefficient in f, and c times that in g
+abbrev pub sum_coefficient : List (ℕ × ℤ) → ℤ → List (ℕ × ℤ) → ℕ → ℤ
+sum_coefficient ts c gs k = coefficient ts k +ℤ c *ℤ coefficient gs k
+
+unfoldable pub sum_terms : List (ℕ × ℤ) → ℤ → List (ℕ × ℤ) → List (ℕ × ℤ)
+sum_terms ts c gs = terms_below (sum_coefficient ts c gs) (max (top ts) (top gs))
+
+abbrev pub plus : LinForm → ℤ → LinForm → LinForm
+plus f c g = form (f.constant +ℤ c *ℤ g.constant) (sum_terms f.terms c g.terms)
 
 -- WHAT IS KNOWN
 abbrev pub is_nil : List (ℕ × ℤ) → Bool

@@ -1,7 +1,9 @@
 ghost use Rattle.std.specs.Prelude.{◌≡◌, ◌<◌, ◌≤◌, ◌+◌, ◌^◌, length, IfOk, IfErr, IsTrue, ◌↔◌, int_lt, pos, ◌<ℤ◌, ◌+ℤ◌, ◌-ℤ◌, ◌*ℤ◌, int_div, if◌then◌else◌};
-ghost use Rattle.index_forms.specs.Forms.{AreFacts, AreForms, IsForm, Falls, within, all_in, in_limit, bound, forms_met, form, plus, join, combined, bounds_of, met_of, loop_end, is_number, upper_of, lower_of, negated, checked, IsAbove, IsBelow};
+ghost use Rattle.index_forms.specs.Facts.{normal_facts};
+ghost use Rattle.index_forms.specs.Forms.{AreFacts, AreForms, IsFact, Falls, choices, within, all_in, in_limit, bound, forms_met, form, plus, join, combined, bounds_of, met_of, loop_end, is_number, upper_of, lower_of, negated, checked, IsAbove, IsBelow};
 
 use crate::form::{Fact, LinForm, moved, plus_scaled};
+use crate::plain::met;
 use payload_ops::{List, Memory};
 use std::alloc::Global;
 
@@ -72,13 +74,13 @@ fn walk(
     left: &mut u32,
     alloc: Global,
 ) -> Result<Option<i64>, Stop>
-    requires known { AreFacts facts.now }
+    requires known { AreFacts (normal_facts facts.now) }
     requires below { below ≤ length facts.now }
     requires falls { Falls below f.now.terms }
     requires within { IsTrue (within f.now) }
-    ensures bound { IfOk result (λ b. b ≡ bound facts.now below f.now) }
-    ensures spent { IfOk result (λ _. left.new + forms_met facts.now below f.now ≡ left.old) }
-    ensures many { IfErr result (λ e. e ≡ Stop.Many → left.old < forms_met facts.now below f.now) }
+    ensures bound { IfOk result (λ b. b ≡ bound (normal_facts facts.now) below f.now) }
+    ensures spent { IfOk result (λ _. left.new + forms_met (normal_facts facts.now) below f.now ≡ left.old) }
+    ensures many { IfErr result (λ e. e ≡ Stop.Many → left.old < forms_met (normal_facts facts.now) below f.now) }
 {
     if *left == 0 {
         return Err(Stop::Many);
@@ -90,12 +92,39 @@ fn walk(
     }
     let (atom, by) = terms[0];
     let rest = &terms[1..];
-    match &facts[atom as usize] {
+    match met(facts, atom, alloc) {
+        Ok(fact) => replaced(facts, &fact, f.constant, rest, by, atom, left, alloc),
+        Err(_) => Err(Stop::Memory),
+    }
+}
+
+/// A bound of a form in which what is known of an atom takes its place.
+#[cycle(walk)]
+fn replaced(
+    facts: &[Fact],
+    fact: &Fact,
+    constant: i64,
+    rest: &[(u32, i64)],
+    by: i64,
+    atom: u32,
+    left: &mut u32,
+    alloc: Global,
+) -> Result<Option<i64>, Stop>
+    requires known { AreFacts (normal_facts facts.now) }
+    requires atom { atom ≤ length facts.now }
+    requires rest { Falls atom rest.now }
+    requires within { IsTrue (all_in rest.now) }
+    requires fact { IsFact atom fact.now }
+    ensures bound { IfOk result (λ b. b ≡ combined (int_lt (pos 0) by) (bounds_of (bound (normal_facts facts.now) atom) constant rest.now by (choices fact.now by))) }
+    ensures spent { IfOk result (λ _. left.new + met_of (forms_met (normal_facts facts.now) atom) constant rest.now by (choices fact.now by) ≡ left.old) }
+    ensures many { IfErr result (λ e. e ≡ Stop.Many → left.old < met_of (forms_met (normal_facts facts.now) atom) constant rest.now by (choices fact.now by)) }
+{
+    match fact {
         Fact::Loop { lower, upper, step } => {
             if by > 0 {
                 child(
                     facts,
-                    f.constant,
+                    constant,
                     rest,
                     by,
                     turned(lower, upper, *step),
@@ -107,7 +136,7 @@ fn walk(
             } else {
                 child(
                     facts,
-                    f.constant,
+                    constant,
                     rest,
                     by,
                     lower.constant,
@@ -120,7 +149,7 @@ fn walk(
         }
         Fact::Least { terms } => each(
             facts,
-            f.constant,
+            constant,
             rest,
             by,
             terms.as_slice(),
@@ -130,7 +159,7 @@ fn walk(
         ),
         Fact::Extent { most } => child(
             facts,
-            f.constant,
+            constant,
             rest,
             by,
             reach(*most, by),
@@ -155,14 +184,14 @@ fn child(
     left: &mut u32,
     alloc: Global,
 ) -> Result<Option<i64>, Stop>
-    requires known { AreFacts facts.now }
+    requires known { AreFacts (normal_facts facts.now) }
     requires atom { atom ≤ length facts.now }
     requires rest { Falls atom rest.now }
     requires others { Falls atom others.now }
     requires within { IsTrue (all_in rest.now) }
-    ensures bound { IfOk result (λ b. b ≡ bound facts.now atom (plus (form constant rest.now) by (form number others.now))) }
-    ensures spent { IfOk result (λ _. left.new + forms_met facts.now atom (plus (form constant rest.now) by (form number others.now)) ≡ left.old) }
-    ensures many { IfErr result (λ e. e ≡ Stop.Many → left.old < forms_met facts.now atom (plus (form constant rest.now) by (form number others.now))) }
+    ensures bound { IfOk result (λ b. b ≡ bound (normal_facts facts.now) atom (plus (form constant rest.now) by (form number others.now))) }
+    ensures spent { IfOk result (λ _. left.new + forms_met (normal_facts facts.now) atom (plus (form constant rest.now) by (form number others.now)) ≡ left.old) }
+    ensures many { IfErr result (λ e. e ≡ Stop.Many → left.old < forms_met (normal_facts facts.now) atom (plus (form constant rest.now) by (form number others.now))) }
 {
     match plus_scaled(constant, rest, by, number, others, alloc) {
         Ok(Some(sum)) => walk(facts, &sum, atom as u64, left, alloc),
@@ -189,15 +218,15 @@ fn each(
     left: &mut u32,
     alloc: Global,
 ) -> Result<Option<i64>, Stop>
-    requires known { AreFacts facts.now }
+    requires known { AreFacts (normal_facts facts.now) }
     requires atom { atom ≤ length facts.now }
     requires rest { Falls atom rest.now }
     requires within { IsTrue (all_in rest.now) }
     requires some { 0 < length choices.now }
     requires choices { AreForms atom choices.now }
-    ensures bound { IfOk result (λ b. b ≡ combined (int_lt (pos 0) by) (bounds_of (bound facts.now atom) constant rest.now by choices.now)) }
-    ensures spent { IfOk result (λ _. left.new + met_of (forms_met facts.now atom) constant rest.now by choices.now ≡ left.old) }
-    ensures many { IfErr result (λ e. e ≡ Stop.Many → left.old < met_of (forms_met facts.now atom) constant rest.now by choices.now) }
+    ensures bound { IfOk result (λ b. b ≡ combined (int_lt (pos 0) by) (bounds_of (bound (normal_facts facts.now) atom) constant rest.now by choices.now)) }
+    ensures spent { IfOk result (λ _. left.new + met_of (forms_met (normal_facts facts.now) atom) constant rest.now by choices.now ≡ left.old) }
+    ensures many { IfErr result (λ e. e ≡ Stop.Many → left.old < met_of (forms_met (normal_facts facts.now) atom) constant rest.now by choices.now) }
 {
     let first = &choices[0];
     let mut best = child(
@@ -232,11 +261,11 @@ fn each(
 
 /// An upper bound of a normal form.
 pub(crate) fn plain_upper(facts: &[Fact], f: &LinForm, alloc: Global) -> Result<Option<i64>, Memory>
-    requires known { AreFacts facts.now }
+    requires known { AreFacts (normal_facts facts.now) }
     requires falls { Falls (length facts.now) f.now.terms }
     requires within { IsTrue (within f.now) }
-    ensures bound { IfOk result (λ b. b ≡ upper_of facts.now f.now) }
-    ensures sound { IfOk result (λ b. IsAbove facts.now f.now b) }
+    ensures bound { IfOk result (λ b. b ≡ upper_of (normal_facts facts.now) f.now) }
+    ensures sound { IfOk result (λ b. IsAbove (normal_facts facts.now) f.now b) }
 {
     let mut left = 4096;
     match walk(facts, f, facts.len() as u64, &mut left, alloc) {
@@ -270,11 +299,11 @@ fn turned_bound(bound: i64) -> Option<i64>
 
 /// A lower bound of a normal form.
 pub(crate) fn plain_lower(facts: &[Fact], f: &LinForm, alloc: Global) -> Result<Option<i64>, Memory>
-    requires known { AreFacts facts.now }
+    requires known { AreFacts (normal_facts facts.now) }
     requires falls { Falls (length facts.now) f.now.terms }
     requires within { IsTrue (within f.now) }
-    ensures bound { IfOk result (λ b. b ≡ lower_of facts.now f.now) }
-    ensures sound { IfOk result (λ b. IsBelow facts.now f.now b) }
+    ensures bound { IfOk result (λ b. b ≡ lower_of (normal_facts facts.now) f.now) }
+    ensures sound { IfOk result (λ b. IsBelow (normal_facts facts.now) f.now b) }
 {
     let turned = negative(f, alloc)?;
     match plain_upper(facts, &turned, alloc)? {

@@ -176,6 +176,14 @@ impl Facts {
         Some(Facts { facts })
     }
 
+    /// Tells whether each atom of a form has a fact, as `upper` and `lower` ask.
+    pub fn covers(&self, f: &LinForm) -> bool
+        ensures { IsTrue result ↔ Falls (length self.now) (normal f.now).terms }
+    {
+        let terms = f.terms.as_slice();
+        none_from(self.as_slice().len() as u64, terms, terms)
+    }
+
     /// The facts, in order.
     pub(crate) fn as_slice(&self) -> &[Fact]
         ensures value { result.now ≡ self.now }

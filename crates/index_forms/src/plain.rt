@@ -1,11 +1,22 @@
-ghost use Rattle.std.specs.Prelude.{◌≡◌, map, IfOk, IsTrue};
-ghost use Rattle.index_forms.specs.Forms.{normal};
-ghost use Rattle.index_forms.specs.Facts.{normal_fact, normal_facts, AllIn, FactIn, FactsIn};
+ghost use Rattle.std.specs.Prelude.{◌≡◌, ◌<◌, length, map, IfOk, IsTrue};
+ghost use Rattle.index_forms.specs.Forms.{normal, within, AreFacts, IsFact, fact_at};
+ghost use Rattle.index_forms.specs.Facts.{normal_fact, normal_facts, AllIn, FactIn};
 
 use crate::form::{Fact, LinForm};
 use crate::normal::normal;
 use payload_ops::{List, Memory};
 use std::alloc::Global;
+
+/// The normal form of a form whose numbers stay within the limit.
+fn plain(f: &LinForm, alloc: Global) -> Result<LinForm, Memory>
+    requires { IsTrue (within (normal f.now)) }
+    ensures { IfOk result (λ g. g ≡ normal f.now) }
+{
+    match normal(f, alloc)? {
+        Some(form) => Ok(form),
+        None => unreachable!(),
+    }
+}
 
 fn normal_forms(forms: &[LinForm], alloc: Global) -> Result<List<LinForm>, Memory>
     requires { AllIn (map normal forms.now) }
@@ -13,7 +24,7 @@ fn normal_forms(forms: &[LinForm], alloc: Global) -> Result<List<LinForm>, Memor
 {
     let mut out = List::new(alloc);
     for form in forms {
-        out.push(normal(form, alloc)?)?;
+        out.push(plain(form, alloc)?)?;
     }
     Ok(out)
 }
@@ -24,8 +35,8 @@ fn normal_fact(fact: &Fact, alloc: Global) -> Result<Fact, Memory>
 {
     match fact {
         Fact::Loop { lower, upper, step } => {
-            let lower = normal(lower, alloc)?;
-            let upper = normal(upper, alloc)?;
+            let lower = plain(lower, alloc)?;
+            let upper = plain(upper, alloc)?;
             Ok(Fact::Loop {
                 lower,
                 upper,
@@ -40,14 +51,12 @@ fn normal_fact(fact: &Fact, alloc: Global) -> Result<Fact, Memory>
     }
 }
 
-/// The facts with their forms normal.
-pub(crate) fn normal_facts(facts: &[Fact], alloc: Global) -> Result<List<Fact>, Memory>
-    requires { FactsIn (normal_facts facts.now) }
-    ensures { IfOk result (λ r. r ≡ normal_facts facts.now) }
+/// The fact of an atom, with its forms normal.
+pub(crate) fn met(facts: &[Fact], atom: u32, alloc: Global) -> Result<Fact, Memory>
+    requires known { AreFacts (normal_facts facts.now) }
+    requires atom { atom < length facts.now }
+    ensures value { IfOk result (λ r. r ≡ fact_at (normal_facts facts.now) atom) }
+    ensures is { IfOk result (λ r. IsFact atom r) }
 {
-    let mut out = List::new(alloc);
-    for fact in facts {
-        out.push(normal_fact(fact, alloc)?)?;
-    }
-    Ok(out)
+    normal_fact(&facts[atom as usize], alloc)
 }

@@ -1,25 +1,20 @@
-use Rattle.std.proofs.Common.{rules, ◌≡◌, ℤ, List, Option, sym, subst, ap, ◌∙◌}
+use Rattle.std.proofs.Common.{ℤ, List, Option, sym, subst, ◌∙◌}
 use Rattle.index_forms.specs.declared.form.LinForm.{LinForm}
 use Rattle.index_forms.specs.declared.form.Fact.{Fact}
 use Rattle.index_forms.specs.Forms.{normal, AreFacts, IsAbove}
-use Rattle.index_forms.specs.Facts.{normal_facts, FactsIn}
-use Rattle.index_forms.proofs.Walks.{ok_map}
-use Rattle.index_forms.proofs.Known.{facts_in, are_facts, above, upper_none}
+use Rattle.index_forms.specs.Facts.{normal_facts}
+use Rattle.index_forms.proofs.Walks.{none_is, some_is, ok_map}
+use Rattle.index_forms.proofs.Known.{are_facts, above, upper_none}
 use Rattle.index_forms.proofs.answers.upper.Goals as goal
 
-pub returns-then-not-is_in_range-clause-bound : goal.returns-then-not-is_in_range-clause-bound
-returns-then-not-is_in_range-clause-bound c = upper_none (normal_facts c.args.facts.now) (normal c.args.f.now) (search rules)
-
-pub normal_facts-requires : goal.normal_facts-requires
-normal_facts-requires c = subst (λ (x : List Fact). FactsIn (normal_facts x)) (sym c.as_slice.ensures.value) (facts_in 0 c.args.facts.now c.as_slice.ensures.kept.0)
+pub returns-in-None-clause-bound : goal.returns-in-None-clause-bound
+returns-in-None-clause-bound c = upper_none (normal_facts c.args.facts.now) (normal c.args.f.now) (none_is (normal c.args.f.now) (sym c.in-None.is ∙ c.in_ok-form.ensures))
 
 pub plain_upper-requires-clause-known : goal.plain_upper-requires-clause-known
-plain_upper-requires-clause-known c =
-    let e : c.as_slice-2.result.now ≡ normal_facts c.args.facts.now = c.as_slice-2.ensures ∙ c.in_ok-known.ensures ∙ ap normal_facts c.as_slice.ensures.value in
-    subst (λ (x : List Fact). AreFacts x) (sym e) (are_facts c.args.facts.now c.as_slice.ensures.kept.0)
+plain_upper-requires-clause-known c = subst (λ (x : List Fact). AreFacts (normal_facts x)) (sym c.as_slice.ensures.value) (are_facts c.args.facts.now c.as_slice.ensures.kept.0)
 
-pub returns-clause-sound : goal.returns-clause-sound
-returns-clause-sound c =
-    let e : c.as_slice-2.result.now ≡ normal_facts c.args.facts.now = c.as_slice-2.ensures ∙ c.in_ok-known.ensures ∙ ap normal_facts c.as_slice.ensures.value in
-    let g : c.in_ok-form.form ≡ normal c.args.f.now = c.in_ok-form.ensures in
-    ok_map c.plain_upper.result _ _ (λ (x : Option ℤ) h. above c.args.facts.now c.args.f.now x (subst (λ (y : LinForm). IsAbove (normal_facts c.args.facts.now) y x) g (subst (λ (z : List Fact). IsAbove z c.in_ok-form.form x) e h))) c.plain_upper.ensures.sound
+pub returns-in-Some-clause-sound : goal.returns-in-Some-clause-sound
+returns-in-Some-clause-sound c =
+    let g = (some_is (normal c.args.f.now) c.in-Some.form (sym c.in-Some.is ∙ c.in_ok-form.ensures)).0 in
+    ok_map c.plain_upper.result (λ b. IsAbove (normal_facts c.as_slice.result.now) c.in-Some.form b) (λ b. IsAbove c.args.facts.now c.args.f.now b)
+    (λ (x : Option ℤ) h. above c.args.facts.now c.args.f.now x (subst (λ (y : LinForm). IsAbove (normal_facts c.args.facts.now) y x) g (subst (λ (z : List Fact). IsAbove (normal_facts z) c.in-Some.form x) c.as_slice.ensures.value h))) c.plain_upper.ensures.sound

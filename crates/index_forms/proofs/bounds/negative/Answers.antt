@@ -3,7 +3,7 @@ use Rattle.std.proofs.lemmas.Int.{ints, to_z-of_z}
 use Rattle.std.proofs.Math.Seq.{drop-cons}
 use Rattle.index_forms.specs.Forms.{in_limit, all_in, scaled}
 use Rattle.index_forms.proofs.Ints.{and_right, limit_low, limit_high}
-use Rattle.index_forms.proofs.Merge.{Terms, all_in_at}
+use Rattle.index_forms.proofs.Limits.{Terms, all_in_at}
 use Rattle.index_forms.proofs.bounds.negative.Goals as goal
 
 abbrev zero_at : ℕ × ℤ
