@@ -1,0 +1,15 @@
+pub mod Bodies
+pub mod Runs
+pub mod Through
+pub mod Grids
+pub mod Regions
+pub mod Identity
+pub mod Defining
+pub mod Frame
+pub mod Replaced
+pub mod Renamed
+pub mod Keeps
+pub mod Named
+pub mod Settled
+pub mod Cells
+pub mod Trees

@@ -1,0 +1,13 @@
+pub mod Grids
+pub mod Points
+pub mod States
+pub mod Structured
+pub mod Moves
+pub mod Vectors
+pub mod Loops
+pub mod Meaning
+pub mod Contexts
+pub mod Renaming
+pub mod Names
+pub mod Replacement
+pub mod Laws

@@ -1,0 +1,18 @@
+use payload_ops::{List, Width};
+
+/// The cells of a tensor or a vector in row-major order, one for each point of the box of these extents
+/// (Builtin manual, "RankedTensorType" and "VectorType").
+#[derive(Debug, Drop)]
+pub struct Grid {
+    pub extents: List<u64>,
+    pub cells: List<u64>,
+}
+
+/// What a value holds: an `index` number, the bits of a scalar integer, or the cells of a tensor or a
+/// vector with their width.
+#[derive(Debug, Drop)]
+pub enum Datum {
+    Number(i64),
+    Bits(u64),
+    Cells { width: Width, grid: Grid },
+}
