@@ -1,0 +1,11 @@
+pub mod Lookups
+pub mod Forms
+pub mod Rows
+pub mod Texts
+pub mod Steps
+pub mod Walks
+pub mod Account
+pub mod Numerals
+pub mod Orders
+pub mod Spellings
+pub mod Laws
