@@ -1,10 +1,9 @@
 -- What is written is read again.
-use Rattle.std.proofs.Common.{◌≡◌, ℕ, Bool, true, false, cond, List, [], length, nat_lt, Option, Some, None, Result, Ok, Err, refl, sym, ap, subst, ◌∙◌}
+use Rattle.std.proofs.Common.{◌≡◌, ℕ, Bool, true, false, cond, List, length, nat_lt, Option, Some, None, Result, Ok, Err, refl, sym, ap, subst, ◌∙◌}
 use Rattle.mlir_ir.specs.declared.tree.Module.{Module}
 use Rattle.mlir_ir.specs.declared.tree.OpId.{OpId}
 use Rattle.mlir_ir.specs.declared.tree.Which.TheVariants.{Bytes}
 use Rattle.mlir_lex.specs.declared.read_error.ReadError.{ReadError}
-use Rattle.mlir_read.specs.declared.read.File.{File}
 use Rattle.mlir_read.specs.Reading.{StandsFor, reading}
 use Rattle.mlir_read.proofs.Whole.{found_in}
 use Rattle.mlir_verify.specs.declared.rule.Rule.{Rule}
@@ -16,7 +15,7 @@ use Rattle.mlir_opt.specs.declared.refusal.Refusal.{Refusal}
 use Rattle.mlir_opt.specs.declared.refusal.Refusal.TheVariants.{Words, FileAbsent, ReadFailed, Limit, Text, Verify, WriteFailed, Memory}
 use Rattle.mlir_opt.specs.Refusals.{status_of}
 use Rattle.mlir_opt.specs.Processed.{processed, printed, printed_unless}
-use Rattle.mlir_opt.specs.Answer.{is_command, input_of, output_of, verdict, answer_of, answer}
+use Rattle.mlir_opt.specs.Answer.{asked_file, input_of, output_of, verdict_on, verdict, answer_of, answer}
 use Rattle.mlir_opt.specs.Again.{ReadsAgain}
 
 status_not : (r : Refusal) → status_of r ≡ 0 → ⊥
@@ -33,9 +32,9 @@ of_verdict : (v : Result (List ℕ) Refusal) → (answer_of v).status ≡ 0 → 
 of_verdict (Ok bytes) e = (bytes, refl)
 of_verdict (Err r) e = absurd (status_not r e)
 
-of_command : (b : Bool) (x : Result (List ℕ) Refusal) (bytes : List ℕ) → cond b x (Err Words) ≡ Ok bytes → x ≡ Ok bytes
-of_command true x bytes e = e
-of_command false x bytes e = absurd (cc e)
+of_words : (files : Files) (asked : Option (List ℕ)) (bytes : List ℕ) → verdict_on files asked ≡ Ok bytes → (name : List ℕ) × (asked ≡ Some name) × (output_of (input_of (files name)) ≡ Ok bytes)
+of_words files None bytes e = absurd (cc e)
+of_words files (Some name) bytes e = (name, refl, e)
 
 of_size : (b : Bool) (text bytes : List ℕ) → output_of (cond b (Err (Limit Bytes)) (Ok text)) ≡ Ok bytes → processed text ≡ Ok bytes
 of_size true text bytes e = absurd (cc e)
@@ -61,8 +60,9 @@ of_processed source bytes e = of_reading source (reading source) bytes refl e
 pub reads_again : (words : List (List ℕ)) (files : Files) → (answer words files).status ≡ 0 → ReadsAgain words files
 reads_again words files e =
     let v = of_verdict (verdict words files) e in
-    let i = of_input (files []) v.0 (of_command (is_command words) (output_of (input_of (files []))) v.0 v.1) in
+    let w = of_words files (asked_file words) v.0 v.1 in
+    let i = of_input (files w.0) v.0 w.2 in
     let p = of_processed i.0 v.0 i.2 in
     let st = found_in i.0 (Ok (record { «module» = p.0 })) p.1 in
     let out : text_of p.0 ≡ (answer words files).out = p.3 ∙ sym (ap (λ x. (answer_of x).out) v.1) in
-    (i.0, p.0, i.1, st, subst (λ (b : List ℕ). StandsFor b p.0) out (reads_back i.0 p.0 st), p.2)
+    (w.0, i.0, p.0, w.1, i.1, st, subst (λ (b : List ℕ). StandsFor b p.0) out (reads_back i.0 p.0 st), p.2)

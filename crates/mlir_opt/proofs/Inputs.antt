@@ -1,5 +1,5 @@
--- What standard input holds.
-use Rattle.std.proofs.Common.{◌≡◌, ◌∙◌, ℕ, ◌+◌, ◌<◌, ◌≤◌, List, [], Bool, true, false, Option, Some, None, Ok, Err, arith, sym, ap, subst, refl, length, replicate, nat_lt, Vec, if◌then◌else◌}
+-- What a file holds.
+use Rattle.std.proofs.Common.{◌≡◌, ◌∙◌, ℕ, ◌+◌, ◌<◌, ◌≤◌, List, Bool, true, false, Option, Some, None, Ok, Err, arith, sym, ap, subst, refl, length, replicate, nat_lt, Vec, if◌then◌else◌}
 use Rattle.std.proofs.lemmas.List.{length-replicate}
 use Rattle.std.specs.Prelude.{IsSome}
 use Rattle.std.specs.declared.alloc.Global.{Global}
@@ -11,7 +11,7 @@ use Rattle.mlir_streams.specs.declared.reading.FetchError.{FetchError}
 use Rattle.mlir_streams.specs.declared.shelf.OpenError.{OpenError}
 use Rattle.mlir_streams.specs.declared.shelf.OpenError.TheVariants as open_error
 use Rattle.mlir_opt.specs.Answer.{input_of}
-use Rattle.mlir_opt.specs.Causes.{IsAbsent}
+use Rattle.mlir_opt.specs.Causes.{IsAbsent, AskedIsAbsent}
 use Rattle.mlir_opt.specs.Steps.{AreFiles, IsInput, InputAbsence}
 use Rattle.mlir_opt.specs.declared.refusal.FileError.TheVariants as input
 use Rattle.mlir_opt.specs.declared.refusal.Refusal.TheVariants.{FileAbsent, Limit}
@@ -36,36 +36,36 @@ long_text n =
     let size : length text ≡ n + 1 = length-replicate (n + 1) 0 in
     (text, omega (arith, size))
 
-absent_input : (T : Type 0) (told : Option Files) (left : Option (List ℕ)) → OpenLeaves {T = T} told [] left (Err open_error.Absent) → IsInput told (Err input.Absent)
-absent_input T None left absent = (λ _. None, tt, refl)
-absent_input T (Some files) left absent = (files, refl, ap input_of absent)
+absent_input : (T : Type 0) (told : Option Files) (name : List ℕ) (left : Option (List ℕ)) → OpenLeaves {T = T} told name left (Err open_error.Absent) → IsInput told name (Err input.Absent)
+absent_input T None name left absent = (λ _. None, tt, refl)
+absent_input T (Some files) name left absent = (files, refl, ap input_of absent)
 
-pub input_absent : (T : Type 0) (told : Option Files) (left : Option (List ℕ)) (why : OpenError) → why ≡ open_error.Absent → OpenLeaves {T = T} told [] left (Err why) → IsInput told (Err input.Absent)
-input_absent T told left why same absent = absent_input T told left (subst (λ e. OpenLeaves {T = T} told [] left (Err e)) same absent)
+pub input_absent : (T : Type 0) (told : Option Files) (name : List ℕ) (left : Option (List ℕ)) (why : OpenError) → why ≡ open_error.Absent → OpenLeaves {T = T} told name left (Err why) → IsInput told name (Err input.Absent)
+input_absent T told name left why same absent = absent_input T told name left (subst (λ e. OpenLeaves {T = T} told name left (Err e)) same absent)
 
-pub input_failed : (told : Option Files) → IsInput told (Err input.Failed)
-input_failed told = let some = any_files told in (some.0, some.1, tt)
+pub input_failed : (told : Option Files) (name : List ℕ) → IsInput told name (Err input.Failed)
+input_failed told name = let some = any_files told in (some.0, some.1, tt)
 
-pub input_memory : (told : Option Files) → IsInput told (Err input.Memory)
-input_memory told = let some = any_files told in (some.0, some.1, tt)
+pub input_memory : (told : Option Files) (name : List ℕ) → IsInput told name (Err input.Memory)
+input_memory told name = let some = any_files told in (some.0, some.1, tt)
 
 no_file : (left : Option (List ℕ)) → None ≡ left → IsSome left → ⊥
 no_file None same some = cc
 no_file (Some text) same some = cc
 
-pub input_read : (T : Type 0) (told : Option Files) (left : Option (List ℕ)) (opened : T) (text : Vec ℕ Global) → OpenLeaves told [] left (Ok opened) → ReadsWhole 4194304 left (Ok text) → length text.items ≤ 4194304 → IsInput told (Ok text)
-input_read T None left opened text leaves whole fits = (λ _. Some text.items, tt, within_limit text.items fits)
-input_read T (Some files) None opened text leaves whole fits = absurd (no_file (files []) leaves.1 leaves.0)
-input_read T (Some files) (Some left) opened text leaves whole fits =
+pub input_read : (T : Type 0) (told : Option Files) (name : List ℕ) (left : Option (List ℕ)) (opened : T) (text : Vec ℕ Global) → OpenLeaves told name left (Ok opened) → ReadsWhole 4194304 left (Ok text) → length text.items ≤ 4194304 → IsInput told name (Ok text)
+input_read T None name left opened text leaves whole fits = (λ _. Some text.items, tt, within_limit text.items fits)
+input_read T (Some files) name None opened text leaves whole fits = absurd (no_file (files name) leaves.1 leaves.0)
+input_read T (Some files) name (Some left) opened text leaves whole fits =
     (files, refl, ap input_of (sym leaves.1 ∙ ap Some (sym whole.0)) ∙ within_limit text.items fits)
 
-limit_input : (T : Type 0) (told : Option Files) (left : Option (List ℕ)) (opened : T) → OpenLeaves told [] left (Ok opened) → ReadsWhole 4194304 left (Err fetch.Limit) → IsInput told (Err input.Limit)
-limit_input T None left opened leaves over = let long = long_text 4194304 in (λ _. Some long.0, tt, over_limit long.0 long.1)
-limit_input T (Some files) None opened leaves over = absurd (no_file (files []) leaves.1 leaves.0)
-limit_input T (Some files) (Some left) opened leaves over = (files, refl, ap input_of (sym leaves.1) ∙ over_limit left over)
+limit_input : (T : Type 0) (told : Option Files) (name : List ℕ) (left : Option (List ℕ)) (opened : T) → OpenLeaves told name left (Ok opened) → ReadsWhole 4194304 left (Err fetch.Limit) → IsInput told name (Err input.Limit)
+limit_input T None name left opened leaves over = let long = long_text 4194304 in (λ _. Some long.0, tt, over_limit long.0 long.1)
+limit_input T (Some files) name None opened leaves over = absurd (no_file (files name) leaves.1 leaves.0)
+limit_input T (Some files) name (Some left) opened leaves over = (files, refl, ap input_of (sym leaves.1) ∙ over_limit left over)
 
-pub input_limit : (T : Type 0) (told : Option Files) (left : Option (List ℕ)) (opened : T) (why : FetchError) → why ≡ fetch.Limit → OpenLeaves told [] left (Ok opened) → ReadsWhole 4194304 left (Err why) → IsInput told (Err input.Limit)
-input_limit T told left opened why same leaves over = limit_input T told left opened leaves (subst (λ e. ReadsWhole 4194304 left (Err e)) same over)
+pub input_limit : (T : Type 0) (told : Option Files) (name : List ℕ) (left : Option (List ℕ)) (opened : T) (why : FetchError) → why ≡ fetch.Limit → OpenLeaves told name left (Ok opened) → ReadsWhole 4194304 left (Err why) → IsInput told name (Err input.Limit)
+input_limit T told name left opened why same leaves over = limit_input T told name left opened leaves (subst (λ e. ReadsWhole 4194304 left (Err e)) same over)
 
 not_absent : (over : Bool) (text : List ℕ) → (if over then Err (Limit Bytes) else Ok text) ≡ Err FileAbsent → ⊥
 not_absent true text same = cc
@@ -75,7 +75,14 @@ none_of_absent : (content : Option (List ℕ)) → input_of content ≡ Err File
 none_of_absent None same = refl
 none_of_absent (Some text) same = absurd (not_absent (nat_lt 4194304 (length text)) text same)
 
--- standard input is absent by its names, or by the count
-pub absent_of : (told : Option Files) (before now : ℕ) → IsInput told (Err input.Absent) → InputAbsence {T = Vec ℕ Global} told before now (Err input.Absent) → IsAbsent told before now
-absent_of None before now absent rose = rose
-absent_of (Some files) before now absent rose = none_of_absent (files []) (subst (λ fs. input_of (fs []) ≡ Err FileAbsent) absent.1 absent.2)
+-- a file is absent by its name, or by the count
+absent_of : (told : Option Files) (name : List ℕ) (before now : ℕ) → IsInput told name (Err input.Absent) → InputAbsence {T = Vec ℕ Global} told before now (Err input.Absent) → IsAbsent told name before now
+absent_of None name before now absent rose = rose
+absent_of (Some files) name before now absent rose = none_of_absent (files name) (subst (λ fs. input_of (fs name) ≡ Err FileAbsent) absent.1 absent.2)
+
+-- the file that the words ask for
+pub asked_absent : (asked : Option (List ℕ)) (told : Option Files) (name : List ℕ) (before now : ℕ) → asked ≡ Some name → IsInput told name (Err input.Absent) → InputAbsence {T = Vec ℕ Global} told before now (Err input.Absent) → AskedIsAbsent asked told before now
+asked_absent None told name before now same absent rose = absurd (cc same)
+asked_absent (Some other) told name before now same absent rose =
+    let e : name ≡ other = cc same in
+    subst (λ n. IsAbsent told n before now) e (absent_of told name before now absent rose)

@@ -1,42 +1,44 @@
 -- How a run ends.
-use Rattle.std.proofs.Common.{arith, ◌≡◌, ◌∙◌, ◌==◌, ℕ, List, true, false, Option, Result, Ok, Err, sym, ap, subst, refl, inl, inr, map, length, Vec}
-use Rattle.std.proofs.lemmas.List.{length-map}
+use Rattle.std.proofs.Common.{◌≡◌, ◌∙◌, ℕ, List, false, Option, Some, None, is_some, Result, Ok, Err, sym, ap, subst, refl, inl, inr, Vec}
 use Rattle.std.specs.declared.alloc.Global.{Global}
 use Rattle.std.proofs.KnownBytes.{Appends-nil}
 use Rattle.mlir_ir.specs.declared.tree.Which.TheVariants.{Bytes}
 use Rattle.mlir_streams.specs.Shelves.{Files}
-use Rattle.mlir_opt.specs.Answer.{is_command, verdict}
+use Rattle.mlir_opt.specs.Answer.{asked_file, output_of, verdict_on, verdict}
 use Rattle.mlir_opt.specs.Causes.{IsVerdict}
 use Rattle.mlir_opt.specs.Processed.{processed}
-use Rattle.mlir_opt.specs.Steps.{AreFiles, IsInput, RunIs, IsRun}
+use Rattle.mlir_words.specs.declared.request.WordsError.{WordsError}
+use Rattle.mlir_words.specs.declared.request.WordsError.TheVariants as words
+use Rattle.mlir_opt.specs.Steps.{AreFiles, AsksFor, IsInput, RunIs, IsRun}
 use Rattle.mlir_opt.proofs.Inputs.{any_files}
 use Rattle.mlir_opt.specs.declared.refusal.FileError.TheVariants as input
 use Rattle.mlir_opt.specs.declared.refusal.Refusal.{Refusal}
 use Rattle.mlir_opt.specs.declared.refusal.Refusal.TheVariants.{Words, FileAbsent, ReadFailed, Limit, Memory}
 
--- one word is the command
-pub one_word : {X : Type 0} (f : X → List ℕ) (words : List X) → length words ≡ 1 → is_command (map f words) ≡ true
-one_word f words one = ap (λ n. n == 1) (length-map words f ∙ one)
+-- words that ask for no file are no command, and others are one
+pub no_command : (asked : Option (List ℕ)) → asked ≡ None → is_some asked ≡ false
+no_command None e = refl
+no_command (Some name) e = absurd (cc e)
 
-not_one : (n : ℕ) → (n ≡ 1 → ⊥) → (n == 1) ≡ false
-not_one n other = grind arith
+pub a_command : {A : Type 0} (asked : Option (List ℕ)) (name : List ℕ) → asked ≡ Some name → is_some asked ≡ false → A
+a_command None name e f = absurd (cc e)
+a_command (Some other) name e f = absurd (cc f)
 
--- and any other list of words isn't
-pub other_words : {X : Type 0} (f : X → List ℕ) (words : List X) → (length words ≡ 1 → ⊥) → is_command (map f words) ≡ false
-other_words f words other = ap (λ n. n == 1) (length-map words f) ∙ not_one (length words) other
+pub asked_none : (asked : Option (List ℕ)) (why : WordsError) → why ≡ words.Words → AsksFor asked (Err why) → asked ≡ None
+asked_none asked why same refused = subst (λ w. AsksFor asked (Err w)) same refused
 
-pub words_verdict : (told : Option Files) (words : List (List ℕ)) → is_command words ≡ false → IsVerdict told words Words
-words_verdict told words wrong = let some = any_files told in (some.0, some.1, rw wrong refl)
+pub words_verdict : (told : Option Files) (words : List (List ℕ)) → asked_file words ≡ None → IsVerdict told words Words
+words_verdict told words wrong = let some = any_files told in (some.0, some.1, ap (verdict_on some.0) wrong)
 
-pub absent_verdict : (told : Option Files) (words : List (List ℕ)) → is_command words ≡ true → IsInput told (Err input.Absent) → IsVerdict told words FileAbsent
-absent_verdict told words command absent = (absent.0, absent.1, rw (command, absent.2) refl)
+pub absent_verdict : (told : Option Files) (words : List (List ℕ)) (name : List ℕ) → asked_file words ≡ Some name → IsInput told name (Err input.Absent) → IsVerdict told words FileAbsent
+absent_verdict told words name asked absent = (absent.0, absent.1, ap (verdict_on absent.0) asked ∙ ap output_of absent.2)
 
-pub limit_verdict : (told : Option Files) (words : List (List ℕ)) → is_command words ≡ true → IsInput told (Err input.Limit) → IsVerdict told words (Limit Bytes)
-limit_verdict told words command over = (over.0, over.1, rw (command, over.2) refl)
+pub limit_verdict : (told : Option Files) (words : List (List ℕ)) (name : List ℕ) → asked_file words ≡ Some name → IsInput told name (Err input.Limit) → IsVerdict told words (Limit Bytes)
+limit_verdict told words name asked over = (over.0, over.1, ap (verdict_on over.0) asked ∙ ap output_of over.2)
 
 -- what is made of the text that was read
-pub text_verdict : (told : Option Files) (words : List (List ℕ)) (text : Vec ℕ Global) (stated : Result (List ℕ) Refusal) → is_command words ≡ true → IsInput told (Ok text) → processed text.items ≡ stated → (files : Files) × AreFiles told files × (verdict words files ≡ stated)
-text_verdict told words text stated command read same = (read.0, read.1, rw (command, read.2) same)
+pub text_verdict : (told : Option Files) (words : List (List ℕ)) (name : List ℕ) (text : Vec ℕ Global) (stated : Result (List ℕ) Refusal) → asked_file words ≡ Some name → IsInput told name (Ok text) → processed text.items ≡ stated → (files : Files) × AreFiles told files × (verdict words files ≡ stated)
+text_verdict told words name text stated asked read same = (read.0, read.1, ap (verdict_on read.0) asked ∙ ap output_of read.2 ∙ same)
 
 -- a refusal that is the verdict
 pub run_refused : (T : Type 0) (told : Option Files) (words : List (List ℕ)) (out : Option (List ℕ)) (refusal : Refusal) → IsVerdict told words refusal → IsRun {T = T} told words out out (Err refusal)

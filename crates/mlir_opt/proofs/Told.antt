@@ -61,6 +61,15 @@ pub some_line : (refusal : Refusal) (words : List (List ℕ)) (told : Option Fil
 some_line refusal words told sb sn ob on ab an old new before now status cause ending =
     elim ending.said [ inl wanting ↦ (Memory, inr wanting.0, tt, wanting.1) | inr part ↦ (refusal, ending.ended, cause, part) ]
 
+-- words that are no command end with status 2, or 4
+pub words_status : {T : Type 0} (r : Result T Refusal) (refusal : Refusal) (status : ℕ) → r ≡ Err refusal → (r ≡ Err Words) ⊎ (r ≡ Err Memory) → (status ≡ status_of refusal) ⊎ (status ≡ 4) → (status ≡ 2) ⊎ (status ≡ 4)
+words_status r refusal status e (inl words) ended =
+    let same : refusal ≡ Words = cc (sym e ∙ words) in
+    elim ended [ inl h ↦ inl (h ∙ ap status_of same) | inr h ↦ inr h ]
+words_status r refusal status e (inr memory) ended =
+    let same : refusal ≡ Memory = cc (sym e ∙ memory) in
+    elim ended [ inl h ↦ inr (h ∙ ap status_of same) | inr h ↦ inr h ]
+
 -- ---- the answer
 
 -- a refusal's status is its own, or 4

@@ -1,18 +1,23 @@
 -- When each refusal comes.
-use Rattle.std.specs.Prelude.{◌≡◌, ◌⊎◌, ℕ, List, [], false, ⊤, Option, Some, None, Result, Ok, Err}
+use Rattle.std.specs.Prelude.{◌≡◌, ◌⊎◌, ℕ, List, false, ⊤, Option, Some, None, Result, Ok, Err}
 use Rattle.mlir_streams.specs.Causes.{Rose}
 use Rattle.mlir_streams.specs.Loops.{AppendsPart}
 use Rattle.mlir_streams.specs.Shelves.{Files}
-use Rattle.mlir_opt.specs.Answer.{is_command, verdict}
+use Rattle.mlir_opt.specs.Answer.{asked_file, is_command, verdict}
 use Rattle.mlir_opt.specs.Refusals.{line_of, status_of}
 use Rattle.mlir_opt.specs.Steps.{AreFiles}
 use Rattle.mlir_opt.specs.declared.refusal.Refusal.{Refusal}
 use Rattle.mlir_opt.specs.declared.refusal.Refusal.TheVariants.{Words, FileAbsent, ReadFailed, Limit, Text, Verify, WriteFailed, Memory}
 
--- Standard input isn't among the names that the shelf tells. Where it tells none, its count of absences rose.
-abbrev pub IsAbsent : Option Files → ℕ → ℕ → Type 0
-IsAbsent None before now = Rose before now
-IsAbsent (Some files) before now = files [] ≡ None
+-- The file isn't among those that the shelf tells. Where it tells none, its count of absences rose.
+abbrev pub IsAbsent : Option Files → List ℕ → ℕ → ℕ → Type 0
+IsAbsent None name before now = Rose before now
+IsAbsent (Some files) name before now = files name ≡ None
+
+-- the same of the file that the words ask for
+abbrev pub AskedIsAbsent : Option (List ℕ) → Option Files → ℕ → ℕ → Type 0
+AskedIsAbsent None told before now = ⊥
+AskedIsAbsent (Some name) told before now = IsAbsent told name before now
 
 -- The verdict is this refusal, over the files that the shelf tells, or over some where it tells none.
 abbrev pub IsVerdict : Option Files → List (List ℕ) → Refusal → Type 0
@@ -22,7 +27,7 @@ IsVerdict told words refusal = (files : Files) × AreFiles told files × (verdic
 -- and of absences, each before and after the call. Want of memory has no cause that is told.
 abbrev pub HasCause : Refusal → List (List ℕ) → Option Files → ℕ → ℕ → ℕ → ℕ → ℕ → ℕ → Type 0
 HasCause Words words told sb sn ob on ab an = is_command words ≡ false
-HasCause FileAbsent words told sb sn ob on ab an = IsAbsent told ab an
+HasCause FileAbsent words told sb sn ob on ab an = AskedIsAbsent (asked_file words) told ab an
 HasCause ReadFailed words told sb sn ob on ab an = Rose sb sn
 HasCause (Limit which) words told sb sn ob on ab an = IsVerdict told words (Limit which)
 HasCause (Text line column fault) words told sb sn ob on ab an = IsVerdict told words (Text line column fault)

@@ -1,11 +1,14 @@
 -- How the steps of a run end.
 use Rattle.std.specs.Prelude.{◌≡◌, ◌⊎◌, ℕ, List, [], ⊤, Option, Some, None, Result, Ok, Err, Vec}
+use Rattle.std.specs.Borrow.{Bor}
 use Rattle.std.specs.declared.alloc.Global.{Global}
 use Rattle.std.specs.Io.KnownBytes.{Appends}
 use Rattle.mlir_ir.specs.declared.tree.Which.TheVariants.{Bytes}
 use Rattle.mlir_streams.specs.Causes.{Rose}
 use Rattle.mlir_streams.specs.Loops.{AppendsPart}
 use Rattle.mlir_streams.specs.Shelves.{Files}
+use Rattle.mlir_words.specs.declared.request.WordsError.{WordsError}
+use Rattle.mlir_words.specs.declared.request.WordsError.TheVariants as words
 use Rattle.mlir_opt.specs.Answer.{input_of, verdict}
 use Rattle.mlir_opt.specs.declared.refusal.FileError.{FileError}
 use Rattle.mlir_opt.specs.declared.refusal.FileError.TheVariants as input
@@ -19,7 +22,7 @@ abbrev pub AreFiles : Option Files → Files → Type 0
 AreFiles None files = ⊤
 AreFiles (Some told) files = files ≡ told
 
--- Standard input was read as stated. A read fault and want of memory may come in its place.
+-- A file was read as stated. A read fault and want of memory may come in its place.
 abbrev pub InputIs : Result (List ℕ) Refusal → Result (Vec ℕ Global) FileError → Type 0
 InputIs stated (Ok read) = stated ≡ Ok read.items
 InputIs stated (Err input.Absent) = stated ≡ Err FileAbsent
@@ -28,8 +31,8 @@ InputIs stated (Err input.Failed) = ⊤
 InputIs stated (Err input.Memory) = ⊤
 
 -- the same over the files of a shelf
-abbrev pub IsInput : Option Files → Result (Vec ℕ Global) FileError → Type 0
-IsInput told result = (files : Files) × AreFiles told files × InputIs (input_of (files [])) result
+abbrev pub IsInput : Option Files → List ℕ → Result (Vec ℕ Global) FileError → Type 0
+IsInput told name result = (files : Files) × AreFiles told files × InputIs (input_of (files name)) result
 
 -- A read fault came only where the count rose, and else the count stays.
 abbrev pub InputCause : {T : Type 0} → ℕ → ℕ → Result T FileError → Type 0
@@ -39,10 +42,16 @@ InputCause before now (Err input.Limit) = now ≡ before
 InputCause before now (Err input.Failed) = Rose before now
 InputCause before now (Err input.Memory) = now ≡ before
 
--- Where the names aren't told, standard input was absent only where the count of absences rose.
+-- Where the names aren't told, a file was absent only where the count of absences rose.
 abbrev pub InputAbsence : {T : Type 0} → Option Files → ℕ → ℕ → Result T FileError → Type 0
 InputAbsence None before now (Err input.Absent) = Rose before now
 InputAbsence files before now result = ⊤
+
+-- The file that the words ask for, or `Words` exactly where they ask for none; want of memory is free.
+abbrev pub AsksFor : Option (List ℕ) → Result (Bor (List ℕ)) WordsError → Type 0
+AsksFor stated (Ok name) = stated ≡ Some name.now
+AsksFor stated (Err words.Words) = stated ≡ None
+AsksFor stated (Err words.Memory) = ⊤
 
 -- A text was refused as stated. Want of memory may come in its place.
 abbrev pub IsTextError : Refusal → TextError → Type 0

@@ -1,24 +1,26 @@
-ghost use Rattle.std.specs.Prelude.{◌≡◌, ◌≢◌, ◌⊎◌, ◌<◌, ◌≤◌, ◌↔◌, length, map, string_bytes, true, false, IfOk, IsErrOf};
+ghost use Rattle.std.specs.Prelude.{◌≡◌, ◌≢◌, ◌⊎◌, ◌<◌, ◌≤◌, length, map, string_bytes, option_map, true, false, IfOk, IsErrOf};
 ghost use Rattle.mlir_streams.specs.Shelves.{Files};
 ghost use Rattle.mlir_opt.specs.Again.{ReadsAgain};
-ghost use Rattle.mlir_opt.specs.Answer.{answer, is_command};
+ghost use Rattle.mlir_words.specs.Request.{request_shape, source_shape};
+ghost use Rattle.mlir_opt.specs.Answer.{answer, asked_file, built_file, is_command, name_of};
 ghost use Rattle.mlir_opt.specs.Causes.{RunCause};
 ghost use Rattle.mlir_opt.specs.Headline.{AnswersWhereTold, ExactLineWhereTold, PrefixWhereTold, AddsNoneOrSomeLine, AnswersForSome, IsTold};
-ghost use Rattle.mlir_opt.specs.Steps.{IsInput, InputCause, InputAbsence, IsRun, ReadFaultCause, WriteFaultCause};
+ghost use Rattle.mlir_opt.specs.Steps.{AsksFor, IsInput, InputCause, InputAbsence, IsRun, ReadFaultCause, WriteFaultCause};
 
 use crate::processing::process;
 use crate::refusal::{FileError, status};
 use crate::{Refusal, TextError};
 use mlir_ir::Which;
 use mlir_streams::{FetchError, OpenError, Shelf, Sink, WriteError, read_whole, write_whole};
+use mlir_words::{Request, Source, Task, WordsError, read_words};
 use std::alloc::Global;
 
 /// How many bytes a text may have.
 const LIMIT: usize = 4_194_304;
 
-// Reads standard input whole.
-fn read_input<S: Shelf>(alloc: Global, shelf: &mut S) -> Result<Vec<u8>, FileError>
-    ensures stated { IsInput (S.files shelf.old) result }
+// Reads the file of this name whole; the empty name is standard input.
+fn read_input<S: Shelf>(alloc: Global, shelf: &mut S, name: &str) -> Result<Vec<u8>, FileError>
+    ensures stated { IsInput (S.files shelf.old) name.now result }
     ensures within { IfOk result (λ text. length text.items ≤ 4194304) }
     ensures same_files { S.files shelf.new ≡ S.files shelf.old }
     ensures cause { InputCause (S.faults shelf.old) (S.faults shelf.new) result }
@@ -27,7 +29,7 @@ fn read_input<S: Shelf>(alloc: Global, shelf: &mut S) -> Result<Vec<u8>, FileErr
         (S.absences shelf.old) (S.absences shelf.new) result }
     ensures absences_later { S.absences shelf.old ≤ S.absences shelf.new }
 {
-    match shelf.open_file("") {
+    match shelf.open_file(name) {
         Ok(()) => {}
         Err(OpenError::Absent) => return Err(FileError::Absent),
         Err(OpenError::Failed) => return Err(FileError::Failed),
@@ -38,6 +40,53 @@ fn read_input<S: Shelf>(alloc: Global, shelf: &mut S) -> Result<Vec<u8>, FileErr
         Err(FetchError::Failed) => Err(FileError::Failed),
         Err(FetchError::Limit) => Err(FileError::Limit),
         Err(FetchError::Memory) => Err(FileError::Memory),
+    }
+}
+
+// The name of the file.
+fn name_of<'a>(file: Source<'a>) -> &'a str
+    ensures { result.now ≡ name_of (source_shape file.entry) }
+{
+    match file {
+        Source::StandardInput => "",
+        Source::File(name) => name,
+    }
+}
+
+// The file of a request that is built: a module that is printed.
+fn built_file<'a>(request: Request<'a>) -> Option<&'a str>
+    ensures { option_map (λ s. s.now) result ≡ built_file (request_shape request.entry) }
+{
+    match request {
+        Request::Sample { k: _ } => None,
+        Request::Module {
+            file,
+            transform,
+            task,
+        } => match task {
+            Task::Print => { if transform { None } else { Some(name_of(file)) } }
+            Task::Lower { function: _ } => None,
+            Task::Run {
+                function: _,
+                input: _,
+                workers: _,
+            } => None,
+        },
+    }
+}
+
+// The file that the words ask for.
+#[tactic(auto, unfolding(crate::specs::Answer::asked_file))]
+fn asked_file<'a>(alloc: Global, words: &'a [String]) -> Result<&'a str, WordsError>
+    ensures { AsksFor (asked_file (map string_bytes words.now)) result }
+{
+    match read_words(alloc, words) {
+        Ok(request) => match built_file(request) {
+            Some(name) => Ok(name),
+            None => Err(WordsError::Words),
+        },
+        Err(WordsError::Words) => Err(WordsError::Words),
+        Err(WordsError::Memory) => Err(WordsError::Memory),
     }
 }
 
@@ -53,8 +102,10 @@ fn run<S: Shelf, O: Sink>(
     ensures cause { RunCause result (map string_bytes words.now) (S.files shelf.old)
         (S.faults shelf.old) (S.faults shelf.new) (O.faults out.old) (O.faults out.new)
         (S.absences shelf.old) (S.absences shelf.new) }
-    ensures words { IsErrOf result Refusal.Words
-        ↔ (is_command (map string_bytes words.now) ≡ false) }
+    ensures words { is_command (map string_bytes words.now) ≡ false
+        → IsErrOf result Refusal.Words ⊎ IsErrOf result Refusal.Memory }
+    ensures command { is_command (map string_bytes words.now) ≡ true
+        → IsErrOf result Refusal.Words → ⊥ }
     ensures read_cause { ReadFaultCause (S.faults shelf.old) (S.faults shelf.new) result }
     ensures write_cause { WriteFaultCause (O.faults out.old) (O.faults out.new) result }
     ensures same_files { S.files shelf.new ≡ S.files shelf.old }
@@ -62,10 +113,12 @@ fn run<S: Shelf, O: Sink>(
     ensures later { S.faults shelf.old ≤ S.faults shelf.new }
     ensures out_later { O.faults out.old ≤ O.faults out.new }
 {
-    if words.len() != 1 {
-        return Err(Refusal::Words);
-    }
-    let text = match read_input(alloc, shelf) {
+    let name = match asked_file(alloc, words) {
+        Ok(name) => name,
+        Err(WordsError::Words) => return Err(Refusal::Words),
+        Err(WordsError::Memory) => return Err(Refusal::Memory),
+    };
+    let text = match read_input(alloc, shelf, name) {
         Ok(text) => text,
         Err(FileError::Absent) => return Err(Refusal::FileAbsent),
         Err(FileError::Failed) => return Err(Refusal::ReadFailed),
@@ -118,8 +171,8 @@ pub fn refuse<E: Sink>(alloc: Global, err: &mut E, refusal: Refusal) -> u8
 }
 
 /// The command `mlir_opt`: does what its words ask for, with the program's name first, and answers
-/// the exit status. It reads from the shelf, writes its output to `out`, and one line to `err`
-/// where it refuses.
+/// the exit status. It reads the file that they name from the shelf, writes its output to `out`, and
+/// one line to `err` where it refuses. A request that isn't built yet is refused as words.
 pub fn mlir_opt<S: Shelf, O: Sink, E: Sink>(
     alloc: Global,
     words: &[String],

@@ -57,7 +57,7 @@ fn ends_as_stated(rt: HostRuntime) -> Result<(), Fail> {
         (1usize, 0u32, 5_000u32, 0u32, 0u32, 0u8, TEXT, ""),
         (1, 0, 1, 0, 0, 0, TEXT, ""),
         (0, 0, 5_000, 0, 0, 2, "", "error: words\n"),
-        (2, 0, 5_000, 0, 0, 2, "", "error: words\n"),
+        (2, 0, 5_000, 0, 0, 3, "", "error: file absent\n"),
         (1, 1, 5_000, 0, 0, 3, "", "error: read failed\n"),
         (1, 3, 5_000, 0, 0, 3, "", "error: read failed\n"),
         (1, 0, 10, 2, 0, 3, "#map = aff", "error: write failed\n"),
@@ -211,6 +211,39 @@ fn no_file_is_absent(rt: HostRuntime) -> Result<(), Fail> {
     assert_eq!(rt; mlir_opt(alloc, &all, &mut shelf, &mut out, &mut err), 3);
     assert_eq!(rt; out.bytes(), b"".as_slice());
     assert_eq!(rt; err.bytes(), b"error: file absent\n".as_slice());
+    Ok(())
+}
+
+#[test]
+fn words_name_the_file(rt: HostRuntime) -> Result<(), Fail> {
+    let alloc = rt.alloc();
+    // A word behind the program's name, the status, and what `err` holds.
+    for (word, status, line) in [
+        ("a.mlir", 0u8, ""),
+        ("-", 3, "error: file absent\n"),
+        ("b.mlir", 3, "error: file absent\n"),
+        ("", 2, "error: words\n"),
+        ("--help", 2, "error: words\n"),
+        ("--transform-interpreter", 2, "error: words\n"),
+        ("--lower=add", 2, "error: words\n"),
+        ("--run=add", 2, "error: words\n"),
+        ("--sample=1", 2, "error: words\n"),
+    ] {
+        let mut files = List::new(alloc);
+        files.push((
+            Name::new(alloc, "a.mlir")?,
+            bytes_of(alloc, TEXT.as_bytes())?,
+        ))?;
+        let mut shelf = CleanShelf::new(files);
+        let mut out = CleanSink::new(alloc);
+        let mut err = CleanSink::new(alloc);
+        let mut all = words(alloc, 1)?;
+        all.push(String::from_str(alloc, word)?)?;
+        let ended = mlir_opt(alloc, &all, &mut shelf, &mut out, &mut err);
+        assert_eq!(rt; ended, status, "{word:?}");
+        assert_eq!(rt; out.bytes().is_empty(), status != 0, "{word:?}");
+        assert_eq!(rt; err.bytes(), line.as_bytes(), "{word:?}");
+    }
     Ok(())
 }
 

@@ -1,7 +1,11 @@
-use Rattle.mlir_opt.proofs.Runs.{other_words, words_verdict, run_refused}
+use Rattle.std.proofs.Common.{map, string_bytes}
+use Rattle.mlir_opt.proofs.Runs.{asked_none, words_verdict, run_refused, run_memory}
 use Rattle.mlir_opt.specs.declared.refusal.Refusal.TheVariants.{Words}
 use Rattle.mlir_opt.proofs.command.run.Goals as goal
 
-pub returns-then-words-ne1-clause-stated : goal.returns-then-words-ne1-clause-stated
-returns-then-words-ne1-clause-stated g c =
-    run_refused (Unit {0}) _ _ _ Words (words_verdict _ _ (other_words _ _ c.if-words-ne1.true))
+pub returns-in-Err-Words-clause-stated : goal.returns-in-Err-Words-clause-stated
+returns-in-Err-Words-clause-stated g c =
+    run_refused (Unit {0}) _ (map string_bytes c.args.words.now) _ Words (words_verdict _ _ (asked_none _ _ c.in-Err-Words.field-0-is c.in-Err-Words.ensures))
+
+pub returns-in-Err-Memory-clause-stated : goal.returns-in-Err-Memory-clause-stated
+returns-in-Err-Memory-clause-stated g c = run_memory (Unit {0}) _ (map string_bytes c.args.words.now) _
