@@ -1,0 +1,11 @@
+mod Adding
+mod Backward
+mod Forward
+mod GoesOn
+mod HasRead
+mod Multiplying
+mod Numbers
+mod Probe
+mod Scaling
+mod Signs
+mod Written

@@ -1,0 +1,53 @@
+use Rattle.std.proofs.Common.{rules, ◌≡◌, ◌≤◌, ◌<◌, ◌^◌, ◌∙◌, ℕ, ℤ, length, true, false, not, drop, get_or, refl, sym, ap, subst, pos, negsuc, ◌+ℤ◌, ◌*ℤ◌, unsigned_abs, arith, FitsSigned, w64, to_z, of_z, lit≤, List, cond}
+use Rattle.std.proofs.lemmas.Int.{to_z-of_z}
+use Rattle.payload_ops.specs.Numbers.{is_in_range}
+use Rattle.affine_maps.specs.declared.map.Expr.{Expr}
+use Rattle.affine_text.specs.Collected.{coefficient, plus_term, plus_terms, is_zero, terms_in_range}
+use Rattle.affine_text.specs.Multiples.{times_terms, with_terms, is_sum}
+use Rattle.affine_text.proofs.Adding.{Adding, added_one, added_far, added_all, term_added, term_far, terms_added, terms_left_range, collected_of, sum_coefficient, set_removed, set_inserted, set_kept, Left, left_at, plus_at, far_at, ascends_from, all_above, sum_constant, sum_coefficients}
+use Rattle.affine_text.proofs.Multiplying.{multiple_left, multiple_constant, multiple_small, constant_small, range_small, range_fits, added_number, constant_in, other_than_zero, stored_sum, stored_number, stored_again, adds_nothing, constant_far, terms_far, adds_all, stored_zero, small_fits}
+use Rattle.affine_text.proofs.reading.collected.Sum.add_multiple.Goals as goal
+
+pub returns-then-is_zero : goal.returns-then-is_zero
+returns-then-is_zero c =
+    let f = small_fits c.args.multiple.now.by (multiple_small c.args.multiple.now c.requires) in
+    adds_nothing c.args.self.now c.args.multiple.now c.keeps_range.ensures (sym (stored_zero c.args.multiple.now.by c.is_zero.result f c.is_zero.ensures) ∙ c.if-is_zero.true)
+
+pub product-number-requires-clause-b : goal.product-number-requires-clause-b
+product-number-requires-clause-b c =
+    let h = constant_small c.args.multiple.now c.requires in
+    subst (λ n. unsigned_abs n ≤ 2 ^ 31) (sym (to_z-of_z w64 c.args.multiple.now.form.constant (small_fits c.args.multiple.now.form.constant h))) h
+
+pub add_constant-requires : goal.add_constant-requires
+add_constant-requires c =
+    let z = other_than_zero c.args.multiple.now c.is_zero.result c.requires c.is_zero.ensures c.if-is_zero.false in
+    let p = added_number c.args.multiple.now c.args.multiple.now.form.constant c.product-number.result c.requires (constant_in c.args.multiple.now c.requires) c.product-number.ensures in
+    let n = stored_number (c.args.multiple.now.by *ℤ c.args.multiple.now.form.constant) c.product-number.result p (multiple_constant c.args.multiple.now c.requires) in
+    ap is_in_range n ∙ multiple_constant c.args.multiple.now c.requires
+
+pub returns-then-not-add_constant : goal.returns-then-not-add_constant
+returns-then-not-add_constant c =
+    let z = other_than_zero c.args.multiple.now c.is_zero.result c.requires c.is_zero.ensures c.if-is_zero.false in
+    let p = added_number c.args.multiple.now c.args.multiple.now.form.constant c.product-number.result c.requires (constant_in c.args.multiple.now c.requires) c.product-number.ensures in
+    let n = stored_number (c.args.multiple.now.by *ℤ c.args.multiple.now.form.constant) c.product-number.result p (multiple_constant c.args.multiple.now c.requires) in
+    constant_far c.args.self.now c.args.multiple.now z (ap (λ x. is_in_range (c.args.self.now.constant +ℤ x)) (sym n) ∙ sym c.add_constant.ensures.exact ∙ c.if-not-add_constant.true)
+
+pub returns-then-not-branch : goal.returns-then-not-branch
+returns-then-not-branch c =
+    let z = other_than_zero c.args.multiple.now c.is_zero.result c.requires c.is_zero.ensures c.if-is_zero.false in
+    let p = added_number c.args.multiple.now c.args.multiple.now.form.constant c.product-number.result c.requires (constant_in c.args.multiple.now c.requires) c.product-number.ensures in
+    let n = stored_number (c.args.multiple.now.by *ℤ c.args.multiple.now.form.constant) c.product-number.result p (multiple_constant c.args.multiple.now c.requires) in
+    let q = c.if-not-add_constant.ensures.done in
+    terms_far c.args.self.now c.args.multiple.now z
+    (ap (λ (x : Expr). terms_in_range (plus_terms x.terms (times_terms c.args.multiple.now.by c.args.multiple.now.form.terms))) (sym q)
+      ∙ terms_left_range c.add_constant.new.self (times_terms c.args.multiple.now.by c.args.multiple.now.form.terms) c.in_ok-add_terms.field-0 c.add_terms.new.self c.if-not-branch.true c.in_ok-add_terms.ensures)
+
+pub returns : goal.returns
+returns c =
+    let z = other_than_zero c.args.multiple.now c.is_zero.result c.requires c.is_zero.ensures c.if-is_zero.false in
+    let p = added_number c.args.multiple.now c.args.multiple.now.form.constant c.product-number.result c.requires (constant_in c.args.multiple.now c.requires) c.product-number.ensures in
+    let n = stored_number (c.args.multiple.now.by *ℤ c.args.multiple.now.form.constant) c.product-number.result p (multiple_constant c.args.multiple.now c.requires) in
+    let q = c.if-not-add_constant.ensures.done in
+    adds_all c.args.self.now c.add_terms.new.self c.args.multiple.now z c.keeps_range-2.ensures
+    (stored_sum c.args.self.now c.add_constant.new.self c.add_terms.new.self c.args.multiple.now _ true c.requires n q
+      (terms_added c.add_constant.new.self (times_terms c.args.multiple.now.by c.args.multiple.now.form.terms) c.in_ok-add_terms.field-0 c.add_terms.new.self c.if-not-branch.false c.in_ok-add_terms.ensures))

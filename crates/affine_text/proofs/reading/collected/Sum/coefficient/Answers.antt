@@ -1,0 +1,14 @@
+use Rattle.std.proofs.Common.{rules, ◌≡◌, ◌≤◌, ◌<◌, ◌^◌, ◌∙◌, ℕ, ℤ, length, true, false, drop, get_or, refl, sym, ap, subst, pos, negsuc, ◌+ℤ◌, ◌*ℤ◌, unsigned_abs, arith, FitsSigned, w64, to_z, of_z, lit≤, List}
+use Rattle.std.proofs.lemmas.Int.{to_z-of_z}
+use Rattle.payload_ops.specs.Numbers.{is_in_range}
+use Rattle.affine_text.specs.Collected.{coefficient, plus_term, plus_terms, is_zero, terms_in_range}
+use Rattle.affine_text.specs.Multiples.{times_terms, with_terms}
+use Rattle.affine_text.proofs.Adding.{sum_coefficient, set_removed, set_inserted, set_kept, Left, left_at, plus_at, far_at, ascends_from, all_above}
+use Rattle.affine_text.proofs.reading.collected.Sum.coefficient.Goals as goal
+
+pub returns-clause-in_range : goal.returns-clause-in_range
+unfolding coefficient
+returns-clause-in_range c =
+    let f : FitsSigned w64 c.unwrap_or.result = search rules in
+    let e : c.unwrap_or.result ≡ coefficient c.self.inside.terms.entries c.args.dimension = search rules in
+    ap is_in_range (to_z-of_z w64 c.unwrap_or.result f ∙ e) ∙ sum_coefficient (record { constant = c.self.inside.constant; terms = c.self.inside.terms.entries }) c.args.dimension c.self.invariant

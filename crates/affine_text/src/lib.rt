@@ -1,0 +1,19 @@
+//! The text of affine maps: writing it and reading it.
+//!
+//! - `map_text` is a map's canonical text.
+//! - `parse_map` reads the map at the front of a text, or answers the first fault.
+//! - `Reader` reads a map that is handed to it one token at a time.
+//!
+//! `specs/Text.antt` says what the canonical text is, `specs/Grammar.antt` which texts are a map's,
+//! `specs/Meaning.antt` which map each means or what fault its expressions have, `specs/Faults.antt`
+//! what the first fault of a text is, and `specs/Reading.antt` how a reader goes through the tokens.
+//! `specs/Collected.antt` and `specs/Multiples.antt` have the words of the forms inside.
+#![tactic(auto)]
+
+mod reading;
+mod text;
+
+pub use reading::fault::MapError;
+pub use reading::parse::parse_map;
+pub use reading::reader::{Fed, Reader};
+pub use text::map_text;

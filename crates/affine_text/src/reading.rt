@@ -1,0 +1,12 @@
+//! Reading the text of a map.
+
+pub mod collected;
+pub mod fault;
+pub mod law;
+pub mod multiple;
+pub mod names;
+pub mod parse;
+pub mod place;
+pub mod reader;
+#[cfg(test)]
+mod tests;

@@ -1,0 +1,40 @@
+//! The map at the front of a text.
+
+use affine_maps::AffineMap;
+use crate::reading::fault::MapError;
+use crate::reading::reader::{Fed, Reader};
+use std::alloc::Global;
+use text_format::{Front, Token, first_front};
+
+/// Reads the `affine_map<..>` at the front of a text, and answers the map and the length of its text
+/// in bytes. What stands behind it isn't looked at. Symbols are read as dimensions after the others.
+/// Else the first fault (Affine manual, "Affine Maps").
+pub fn parse_map(alloc: Global, text: &[u8]) -> Result<(AffineMap, u32), MapError> {
+    let mut reader = Reader::new(alloc, true);
+    let mut at = 0usize;
+    let mut rest = text;
+    while let Some(front) = first_front(rest) {
+        match front {
+            Front::Skip(n) => {
+                let (_, after) = rest.split_at(n);
+                at += n;
+                rest = after;
+            }
+            Front::Token(kind, n) => {
+                let (bytes, after) = rest.split_at(n);
+                let fed = reader.feed(&Token::new(kind, at as u32, bytes))?;
+                at += n;
+                rest = after;
+                if let Fed::Whole = fed {
+                    return match reader.into_map() {
+                        Some(map) => Ok((map, at as u32)),
+                        None => Err(MapError::Memory),
+                    };
+                }
+            }
+            Front::Byte(n) => return Err(MapError::BadText((at + n) as u32)),
+            Front::Unclosed => return Err(MapError::BadText(at as u32)),
+        }
+    }
+    Err(MapError::BadText(at as u32))
+}
