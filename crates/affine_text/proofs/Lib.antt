@@ -5,6 +5,7 @@ mod GoesOn
 mod HasRead
 mod Multiplying
 mod Numbers
+mod OneReading
 mod Probe
 mod Scaling
 mod Signs

@@ -10,9 +10,11 @@
 //! `specs/Collected.antt` and `specs/Multiples.antt` have the words of the forms inside.
 #![tactic(auto)]
 
+mod laws;
 mod reading;
 mod text;
 
+pub use laws::one_reading;
 pub use reading::fault::MapError;
 pub use reading::parse::parse_map;
 pub use reading::reader::{Fed, Reader};
