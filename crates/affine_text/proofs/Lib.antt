@@ -1,5 +1,8 @@
 mod Adding
 mod Backward
+mod CanonicalBytes
+mod CanonicalSpaced
+mod Fitting
 mod Forward
 mod GoesOn
 mod HasRead

@@ -1,9 +1,14 @@
 //! Laws of the text of maps. Their functions have no code: each contract is a law.
 
-ghost use Rattle.std.specs.Prelude.{◌≡◌, ℕ, Bool};
+ghost use Rattle.std.specs.Prelude.{◌≡◌, ◌≤◌, ◌^◌, ℕ, Bool, List};
+ghost use Rattle.affine_maps.specs.Map.{IsMap};
 ghost use Rattle.affine_maps.specs.Shape.{MapShape};
+ghost use Rattle.text_format.specs.declared.class.Class.{Class};
+ghost use Rattle.text_format.specs.Pieces.{bytes_of, IsSpaced};
 ghost use Rattle.affine_text.specs.declared.reading.fault.MapError.{MapError};
 ghost use Rattle.affine_text.specs.Faults.{Stream, IsMapText, IsFirstFault};
+ghost use Rattle.affine_text.specs.Canonical.{map_pieces};
+ghost use Rattle.affine_text.specs.Text.{text_of_map};
 
 /// Reading has one answer. There is nothing to run.
 pub fn one_reading()
@@ -13,4 +18,12 @@ pub fn one_reading()
     ensures no_fault { (symbols : Bool) (s : Stream) (m : MapShape) (n : ℕ) (fault : MapError) → IsMapText symbols s m n → IsFirstFault symbols s fault → ⊥ }
     // There is one first fault at most.
     ensures fault { (symbols : Bool) (s : Stream) (f : MapError) (g : MapError) → IsFirstFault symbols s f → IsFirstFault symbols s g → f ≡ g }
+{}
+
+/// The canonical text of a map in pieces. There is nothing to run.
+pub fn canonical_pieces()
+    // The pieces are the canonical text.
+    ensures text { (c : Class) (m : MapShape) → bytes_of (map_pieces c m) ≡ text_of_map m }
+    // Each token ends where the next piece begins, whatever stands behind the map.
+    ensures spaced { (c : Class) (m : MapShape) (rest : List ℕ) → IsMap m → m.dims ≤ 2 ^ 32 → IsSpaced (map_pieces c m) rest }
 {}

@@ -1,0 +1,9 @@
+use Rattle.affine_text.proofs.CanonicalBytes.{map_bytes}
+use Rattle.affine_text.proofs.CanonicalSpaced.{map_spaced}
+use Rattle.affine_text.proofs.laws.canonical_pieces.Goals as goal
+
+pub returns-clause-text : goal.returns-clause-text
+returns-clause-text c = map_bytes
+
+pub returns-clause-spaced : goal.returns-clause-spaced
+returns-clause-spaced _ c m rest i d = map_spaced c m i d rest
