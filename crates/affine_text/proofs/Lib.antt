@@ -2,6 +2,7 @@ mod Adding
 mod Backward
 mod CanonicalBytes
 mod CanonicalSpaced
+mod CanonicalTokens
 mod Fitting
 mod Forward
 mod GoesOn

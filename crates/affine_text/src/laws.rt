@@ -4,10 +4,11 @@ ghost use Rattle.std.specs.Prelude.{◌≡◌, ◌≤◌, ◌^◌, ℕ, Bool, Li
 ghost use Rattle.affine_maps.specs.Map.{IsMap};
 ghost use Rattle.affine_maps.specs.Shape.{MapShape};
 ghost use Rattle.text_format.specs.declared.class.Class.{Class};
-ghost use Rattle.text_format.specs.Pieces.{bytes_of, IsSpaced};
+ghost use Rattle.text_format.specs.Pieces.{bytes_of, shapes_at, IsSpaced};
 ghost use Rattle.affine_text.specs.declared.reading.fault.MapError.{MapError};
 ghost use Rattle.affine_text.specs.Faults.{Stream, IsMapText, IsFirstFault};
-ghost use Rattle.affine_text.specs.Canonical.{map_pieces};
+ghost use Rattle.affine_text.specs.Grammar.{map_tokens};
+ghost use Rattle.affine_text.specs.Canonical.{map_pieces, map_tree};
 ghost use Rattle.affine_text.specs.Text.{text_of_map};
 
 /// Reading has one answer. There is nothing to run.
@@ -26,4 +27,6 @@ pub fn canonical_pieces()
     ensures text { (c : Class) (m : MapShape) → bytes_of (map_pieces c m) ≡ text_of_map m }
     // Each token ends where the next piece begins, whatever stands behind the map.
     ensures spaced { (c : Class) (m : MapShape) (rest : List ℕ) → IsMap m → m.dims ≤ 2 ^ 32 → IsSpaced (map_pieces c m) rest }
+    // Their tokens spell the canonical tree, at whatever place the map begins.
+    ensures tree { (c : Class) (m : MapShape) (at : ℕ) → map_tokens (map_tree c at m) ≡ shapes_at at (map_pieces c m) }
 {}

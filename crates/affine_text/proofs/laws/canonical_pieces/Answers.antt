@@ -1,5 +1,6 @@
 use Rattle.affine_text.proofs.CanonicalBytes.{map_bytes}
 use Rattle.affine_text.proofs.CanonicalSpaced.{map_spaced}
+use Rattle.affine_text.proofs.CanonicalTokens.{map_spelled}
 use Rattle.affine_text.proofs.laws.canonical_pieces.Goals as goal
 
 pub returns-clause-text : goal.returns-clause-text
@@ -7,3 +8,6 @@ returns-clause-text c = map_bytes
 
 pub returns-clause-spaced : goal.returns-clause-spaced
 returns-clause-spaced _ c m rest i d = map_spaced c m i d rest
+
+pub returns-clause-tree : goal.returns-clause-tree
+returns-clause-tree c = map_spelled
