@@ -1,6 +1,9 @@
 mod Adding
 mod Backward
 mod CanonicalBytes
+mod CanonicalFits
+mod CanonicalMeaning
+mod CanonicalNames
 mod CanonicalSpaced
 mod CanonicalTokens
 mod Fitting
@@ -11,6 +14,8 @@ mod Multiplying
 mod Numbers
 mod OneReading
 mod Probe
+mod ReadsBack
 mod Scaling
 mod Signs
+mod Streams
 mod Written

@@ -1,13 +1,14 @@
 //! Laws of the text of maps. Their functions have no code: each contract is a law.
 
-ghost use Rattle.std.specs.Prelude.{◌≡◌, ◌≤◌, ◌^◌, ℕ, Bool, List};
+ghost use Rattle.std.specs.Prelude.{◌≡◌, ◌≤◌, ◌^◌, ℕ, Bool, List, ◌++◌, length, Ok};
 ghost use Rattle.affine_maps.specs.Map.{IsMap};
 ghost use Rattle.affine_maps.specs.Shape.{MapShape};
 ghost use Rattle.text_format.specs.declared.class.Class.{Class};
 ghost use Rattle.text_format.specs.Pieces.{bytes_of, shapes_at, IsSpaced};
 ghost use Rattle.affine_text.specs.declared.reading.fault.MapError.{MapError};
-ghost use Rattle.affine_text.specs.Faults.{Stream, IsMapText, IsFirstFault};
-ghost use Rattle.affine_text.specs.Grammar.{map_tokens};
+ghost use Rattle.affine_text.specs.Faults.{Stream, stream_of, IsMapText, IsFirstFault};
+ghost use Rattle.affine_text.specs.Grammar.{IsMapTree, map_tokens};
+ghost use Rattle.affine_text.specs.Meaning.{meaning};
 ghost use Rattle.affine_text.specs.Canonical.{map_pieces, map_tree};
 ghost use Rattle.affine_text.specs.Text.{text_of_map};
 
@@ -29,4 +30,12 @@ pub fn canonical_pieces()
     ensures spaced { (c : Class) (m : MapShape) (rest : List ℕ) → IsMap m → m.dims ≤ 2 ^ 32 → IsSpaced (map_pieces c m) rest }
     // Their tokens spell the canonical tree, at whatever place the map begins.
     ensures tree { (c : Class) (m : MapShape) (at : ℕ) → map_tokens (map_tree c at m) ≡ shapes_at at (map_pieces c m) }
+    // That tree is a map's, and it means this map.
+    ensures means { (c : Class) (m : MapShape) (at : ℕ) (symbols : Bool) → IsMap m → m.dims ≤ 2 ^ 32 → IsMapTree symbols (map_tree c at m) × (meaning (map_tree c at m) ≡ Ok m) }
+{}
+
+/// The canonical text of a map is read as that map. There is nothing to run.
+pub fn canonical_map_reads_back()
+    // Whatever stands behind it, and whether symbols are allowed or not.
+    ensures { (m : MapShape) (rest : List ℕ) (symbols : Bool) → IsMap m → m.dims ≤ 2 ^ 32 → IsMapText symbols (stream_of (text_of_map m ++ rest)) m (length (text_of_map m)) }
 {}

@@ -14,7 +14,7 @@ mod laws;
 mod reading;
 mod text;
 
-pub use laws::one_reading;
+pub use laws::{canonical_map_reads_back, canonical_pieces, one_reading};
 pub use reading::fault::MapError;
 pub use reading::parse::parse_map;
 pub use reading::reader::{Fed, Reader};

@@ -1,6 +1,8 @@
 use Rattle.affine_text.proofs.CanonicalBytes.{map_bytes}
 use Rattle.affine_text.proofs.CanonicalSpaced.{map_spaced}
 use Rattle.affine_text.proofs.CanonicalTokens.{map_spelled}
+use Rattle.affine_text.proofs.CanonicalMeaning.{map_means}
+use Rattle.affine_text.proofs.CanonicalFits.{map_fits}
 use Rattle.affine_text.proofs.laws.canonical_pieces.Goals as goal
 
 pub returns-clause-text : goal.returns-clause-text
@@ -11,3 +13,6 @@ returns-clause-spaced _ c m rest i d = map_spaced c m i d rest
 
 pub returns-clause-tree : goal.returns-clause-tree
 returns-clause-tree c = map_spelled
+
+pub returns-clause-means : goal.returns-clause-means
+returns-clause-means _ c m at symbols i s = (map_fits c at m symbols i s, map_means c at m i s)
