@@ -1,5 +1,7 @@
+pub mod Codes
 pub mod Collected
 pub mod Faults
+pub mod Feeding
 pub mod Grammar
 pub mod Meaning
 pub mod Multiples

@@ -15,5 +15,4 @@ mod text;
 
 pub use reading::fault::MapError;
 pub use reading::parse::parse_map;
-pub use reading::reader::{Fed, Reader};
 pub use text::map_text;
