@@ -1,8 +1,10 @@
 mod Adding
 mod Backward
+mod Digits
 mod Forward
 mod GoesOn
 mod HasRead
+mod Levels
 mod Multiplying
 mod Numbers
 mod Probe

@@ -79,8 +79,8 @@ impl<'a> Reader<'a> {
 
     /// The map that was read. None: it would be none.
     pub fn into_map(self) -> Option<AffineMap>
-        ensures valid { IsSome result ↔ IsMap (map_read self) }
-        ensures value { IfSome result (λ m. m ≡ map_read self) }
+        ensures valid { IsSome result ↔ IsMap (map_read self.entry) }
+        ensures value { IfSome result (λ m. m ≡ map_read self.entry) }
     {
         AffineMap::new(self.names.count(), self.gathering.into_results())
     }
