@@ -7,7 +7,7 @@ use Rattle.affine_text.specs.declared.reading.place.Place.TheVariants as places
 use Rattle.affine_text.specs.declared.reading.place.Sign.{Sign}
 use Rattle.affine_text.specs.declared.reading.place.Sign.TheVariants as signs
 use Rattle.affine_text.specs.Grammar.{Factor, Name, Number, Negative, Group, Factors, NoFactor, Times, Products, NoProduct, Plus, Minus, Sum, Starts, Items, Empty, From, Declared, Symbols, mark_at, word_at, number_at, factor_tokens, FactorFits, SumFits, is_declared}
-use Rattle.affine_text.specs.Reading.{Spot, sign_of, spot_by, spot_behind, declares, opens_by, closes_by, parts_by, operand_spot, goes, keyword_spot}
+use Rattle.affine_text.specs.Reading.{Spot, sign_of, spot_by, spot_behind, declares, opens_by, closes_by, parts_by, goes}
 use Rattle.affine_text.proofs.GoesOn.{closing_tokens, ClosingFits, RestAt, rest_tokens, RestFits}
 use Rattle.affine_text.proofs.Forward.{spot}
 use Rattle.affine_text.proofs.Signs.{same_bytes, mark_text, IsMark, mark_token, word_token, number_token}
@@ -126,10 +126,10 @@ back_open : (symbols : Bool) (t : TokenShape) (names : List (List ℕ)) (n room 
 unfolding factor_tokens FactorFits closing_tokens ClosingFits
 back_open symbols t names n zero e = tt
 back_open symbols t names n (suc room) e = λ r f. (
-    (Group t.start (Starts r.0 r.1 r.2) r.3.0, r.3.1, r.3.2, r.3.3),
-    ((f.0, f.1, f.2), f.3.0, f.3.1, f.3.2),
-    headed t (mark_at t.start (codes "(")) _ (mark_token t signs.Open e tt),
-  )
+  (Group t.start (Starts r.0 r.1 r.2) r.3.0, r.3.1, r.3.2, r.3.3),
+  ((f.0, f.1, f.2), f.3.0, f.3.1, f.3.2),
+  headed t (mark_at t.start (codes "(")) _ (mark_token t signs.Open e tt),
+)
 
 back_operand : (symbols : Bool) (g : Sign) (t : TokenShape) (names : List (List ℕ)) (n room : ℕ) → sign_of t ≡ g → BackAt symbols places.Operand g t names n room
 unfolding spot_by factor_tokens FactorFits
@@ -168,20 +168,20 @@ back_first_result symbols _ t names n room e = tt
 back_comma : (symbols : Bool) (t : TokenShape) (names : List (List ℕ)) (n room : ℕ) → sign_of t ≡ signs.Comma → Back symbols (spot places.Operator names n room) t (parts_by n (spot places.Operator names n room))
 unfolding factor_tokens FactorFits closing_tokens ClosingFits
 back_comma symbols t names zero room e = λ r f. (
-    (NoFactor, NoProduct, ((t.start, Starts r.0 r.1 r.2) ∷ r.3.0, r.3.1, r.3.2)),
-    (tt, tt, ((f.0, f.1, f.2), f.3)),
-    headed t (mark_at t.start (codes ",")) _ (mark_token t signs.Comma e tt),
-  )
+  (NoFactor, NoProduct, ((t.start, Starts r.0 r.1 r.2) ∷ r.3.0, r.3.1, r.3.2)),
+  (tt, tt, ((f.0, f.1, f.2), f.3)),
+  headed t (mark_at t.start (codes ",")) _ (mark_token t signs.Comma e tt),
+)
 back_comma symbols t names (suc n) room e = tt
 
 back_close : (symbols : Bool) (t : TokenShape) (names : List (List ℕ)) (n room : ℕ) → sign_of t ≡ signs.Close → Back symbols (spot places.Operator names n room) t (closes_by n (spot places.Operator names n room))
 unfolding factor_tokens FactorFits closing_tokens ClosingFits
 back_close symbols t names zero room e = λ r f. ((NoFactor, NoProduct, ([], t.start, r)), (tt, tt, tt), headed t (mark_at t.start (codes ")")) _ (mark_token t signs.Close e tt))
 back_close symbols t names (suc n) room e = λ r f. (
-    (NoFactor, NoProduct, (t.start, r.0, r.1, r.2)),
-    (tt, tt, (f.0, f.1, f.2)),
-    headed t (mark_at t.start (codes ")")) _ (mark_token t signs.Close e tt),
-  )
+  (NoFactor, NoProduct, (t.start, r.0, r.1, r.2)),
+  (tt, tt, (f.0, f.1, f.2)),
+  headed t (mark_at t.start (codes ")")) _ (mark_token t signs.Close e tt),
+)
 
 back_operator : (symbols : Bool) (g : Sign) (t : TokenShape) (names : List (List ℕ)) (n room : ℕ) → sign_of t ≡ g → BackAt symbols places.Operator g t names n room
 unfolding spot_by factor_tokens FactorFits

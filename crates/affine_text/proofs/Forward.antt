@@ -14,7 +14,8 @@ use Rattle.affine_text.specs.Collected.{negative_form}
 use Rattle.affine_text.specs.Meaning.{and_then, factor_form, factors_form, products_form, sum_form, other_results, results_form, sum_of, product_of, one_form, zero_form, negative_of, name_form, number_form}
 use Rattle.affine_text.specs.declared.reading.place.Sign.{Sign}
 use Rattle.affine_text.specs.declared.reading.place.Sign.TheVariants as signs
-use Rattle.affine_text.specs.Reading.{Spot, Level, Gathered, level_with, signed, with_factor, with_product, with_level, turned, unturned, mark_sign, spot_by, spot_behind, gathered_with, declares, at_place, operand_spot, first_result_spot, sign_of, new_level, opens_by, next_product, level_from, opened, closed, ended, close_by, next_result}
+use Rattle.affine_text.specs.declared.reading.level.Level.{Level}
+use Rattle.affine_text.specs.Reading.{Spot, Gathered, level_with, signed, with_factor, with_product, with_level, turned, unturned, mark_sign, spot_by, spot_behind, gathered_with, declares, at_place, sign_of, new_level, opens_by, next_product, level_from, opened, closed, ended, close_by, next_result, spot_with, operand_step, first_result_step, gathers_with}
 use Rattle.affine_text.proofs.Scaling.{scaled_twice, scaled_one}
 use Rattle.affine_text.proofs.GoesOn.{Closing, closing_tokens, ClosingFits, closing_means, behind, Operand, Results, Arrowed, RestAt, rest_tokens, RestFits, rest_means, operand_means, first_means}
 
@@ -53,15 +54,19 @@ goes_on : (symbols : Bool) (s next : Spot) (t : TokenShape) (ts : List TokenShap
     → spot_behind symbols s t ≡ Some next → (r : RestAt next.place next.depth) → RestFits symbols next.place next.depth r next.names next.room
     → rest_tokens next.place next.depth r ≡ ts → ((v : Gathered) → gathered_with s t v ≡ Ok v) → ((v : Gathered) → means v ≡ rest_means next.place next.depth r next.names v)
     → Begun symbols s (t ∷ ts) means
-goes_on symbols s next t ts means moves r fits spelled keeps same =
-    (t, ts, refl, record {
-      next = next;
-      moves = moves;
-      rest = r;
-      fits = fits;
-      spelled = spelled;
-      same = λ v. same v ∙ sym (ap (λ (m : Result Gathered MapError). and_then m (rest_means next.place next.depth r next.names)) (keeps v));
-    })
+goes_on symbols s next t ts means moves r fits spelled keeps same = (
+  t,
+  ts,
+  refl,
+  record {
+    next = next;
+    moves = moves;
+    rest = r;
+    fits = fits;
+    spelled = spelled;
+    same = λ v. same v ∙ sym (ap (λ (m : Result Gathered MapError). and_then m (rest_means next.place next.depth r next.names)) (keeps v));
+  },
+)
 
 declared : (p : Place) (name : List ℕ) (s : Spot) → is_declared s.names name ≡ false → declares p name s ≡ Some (record { place = p; names = s.names ++ name ∷ []; depth = s.depth; room = s.room })
 declared p name s e = cond-false (is_declared s.names name) _ _ e
@@ -180,30 +185,38 @@ BeginsOperand symbols n r names room = Starts' symbols places.Operand n r names 
 begins_name : (symbols : Bool) (n : ℕ) (at : ℕ) (text : List ℕ) (fs : Factors) (ps : Products) (c : Closing n) (names : List (List ℕ)) (room : ℕ)
     → RestFits symbols places.Operand n (Name at text, fs, ps, c) names room → BeginsOperand symbols n (Name at text, fs, ps, c) names room
 unfolding mark_sign spot_by gathered_with factor_tokens FactorFits factor_form factor_end
-begins_name symbols n at text fs ps c names room f =
-    (word_at at text, _, refl, record {
-      next = spot places.Operator names n room;
-      moves = cond-true (is_declared names text) _ _ f.0;
-      rest = (fs, ps, c);
-      fits = (f.1, f.2, f.3);
-      spelled = refl;
-      same = λ v. factor_step n fs ps c names v at (name_form names text);
-    })
+begins_name symbols n at text fs ps c names room f = (
+  word_at at text,
+  _,
+  refl,
+  record {
+    next = spot places.Operator names n room;
+    moves = cond-true (is_declared names text) _ _ f.0;
+    rest = (fs, ps, c);
+    fits = (f.1, f.2, f.3);
+    spelled = refl;
+    same = λ v. factor_step n fs ps c names v at (name_form names text);
+  },
+)
 
 begins_number : (symbols : Bool) (n : ℕ) (at : ℕ) (digits : List ℕ) (fs : Factors) (ps : Products) (c : Closing n) (names : List (List ℕ)) (room : ℕ)
     → RestFits symbols places.Operand n (Number at digits, fs, ps, c) names room → BeginsOperand symbols n (Number at digits, fs, ps, c) names room
 unfolding mark_sign spot_by gathered_with factor_tokens FactorFits factor_form factor_end
-begins_number symbols n at digits fs ps c names room f =
-    (number_at at digits, _, refl, record {
-      next = spot places.Operator names n room;
-      moves = refl;
-      rest = (fs, ps, c);
-      fits = (f.1, f.2, f.3);
-      spelled = refl;
-      same = λ v.
-          then_same (number_form at digits) (λ g. and_then (level_with v.level at g) (behind n fs ps c names v.outer v.level at v.results)) (λ g. and_then (with_factor v at g) (rest_means places.Operator n (fs, ps, c) names)) (factor_step n fs ps c names v at)
-          ∙ sym (then_then (number_form at digits) (with_factor v at) (rest_means places.Operator n (fs, ps, c) names));
-    })
+begins_number symbols n at digits fs ps c names room f = (
+  number_at at digits,
+  _,
+  refl,
+  record {
+    next = spot places.Operator names n room;
+    moves = refl;
+    rest = (fs, ps, c);
+    fits = (f.1, f.2, f.3);
+    spelled = refl;
+    same = λ v.
+        then_same (number_form at digits) (λ g. and_then (level_with v.level at g) (behind n fs ps c names v.outer v.level at v.results)) (λ g. and_then (with_factor v at g) (rest_means places.Operator n (fs, ps, c) names)) (factor_step n fs ps c names v at)
+        ∙ sym (then_then (number_form at digits) (with_factor v at) (rest_means places.Operator n (fs, ps, c) names));
+  },
+)
 
 twice : (e : Expr) → negative_form (negative_form e) ≡ e
 twice e = scaled_twice (negsuc 0) (negsuc 0) e ∙ scaled_one e
@@ -215,35 +228,43 @@ signed_turned false e = refl
 begins_negative : (symbols : Bool) (n : ℕ) (at : ℕ) (g : Factor) (fs : Factors) (ps : Products) (c : Closing n) (names : List (List ℕ)) (room : ℕ)
     → RestFits symbols places.Operand n (Negative at g, fs, ps, c) names room → BeginsOperand symbols n (Negative at g, fs, ps, c) names room
 unfolding mark_sign spot_by gathered_with factor_tokens FactorFits factor_form factor_end
-begins_negative symbols n at g fs ps c names room f =
-    (mark_at at (codes "-"), _, refl, record {
-      next = spot places.Operand names n room;
-      moves = refl;
-      rest = (g, fs, ps, c);
-      fits = f;
-      spelled = refl;
-      same = λ v.
-          then_then (factor_form g names) negative_of (λ e. and_then (level_with v.level (factor_end g) e) (behind n fs ps c names v.outer v.level (factor_end g) v.results))
-          ∙ then_same (factor_form g names) (λ e. and_then (level_with v.level (factor_end g) (negative_form e)) (behind n fs ps c names v.outer v.level (factor_end g) v.results))
-            (λ e. and_then (level_with (turned v.level) (factor_end g) e) (behind n fs ps c names v.outer v.level (factor_end g) v.results))
-            (λ e. ap (λ x. and_then (product_of (factor_end g) v.level.product x) (behind n fs ps c names v.outer v.level (factor_end g) v.results)) (signed_turned v.level.negative e));
-    })
+begins_negative symbols n at g fs ps c names room f = (
+  mark_at at (codes "-"),
+  _,
+  refl,
+  record {
+    next = spot places.Operand names n room;
+    moves = refl;
+    rest = (g, fs, ps, c);
+    fits = f;
+    spelled = refl;
+    same = λ v.
+        then_then (factor_form g names) negative_of (λ e. and_then (level_with v.level (factor_end g) e) (behind n fs ps c names v.outer v.level (factor_end g) v.results))
+        ∙ then_same (factor_form g names) (λ e. and_then (level_with v.level (factor_end g) (negative_form e)) (behind n fs ps c names v.outer v.level (factor_end g) v.results))
+        (λ e. and_then (level_with (turned v.level) (factor_end g) e) (behind n fs ps c names v.outer v.level (factor_end g) v.results))
+        (λ e. ap (λ x. and_then (product_of (factor_end g) v.level.product x) (behind n fs ps c names v.outer v.level (factor_end g) v.results)) (signed_turned v.level.negative e));
+  },
+)
 
 begins_group : (symbols : Bool) (n : ℕ) (at : ℕ) (s : Sum) (close : ℕ) (fs : Factors) (ps : Products) (c : Closing n) (names : List (List ℕ)) (room : ℕ)
     → RestFits symbols places.Operand n (Group at s close, fs, ps, c) names room → BeginsOperand symbols n (Group at s close, fs, ps, c) names room
 unfolding mark_sign spot_by gathered_with factor_tokens FactorFits factor_form factor_end closing_tokens ClosingFits closing_means
 begins_group symbols n at (Starts g gs qs) close fs ps c names zero f = absurd f.0
-begins_group symbols n at (Starts g gs qs) close fs ps c names (suc room) f =
-    (mark_at at (codes "("), _, refl, record {
-      next = spot places.Operand names (suc n) room;
-      moves = refl;
-      rest = (g, gs, qs, (close, fs, ps, c));
-      fits = (f.0.0, f.0.1, f.0.2, (f.1, f.2, f.3));
-      spelled = refl;
-      same = λ v.
-          chain_four (factor_form g names) (λ e. product_of (factor_end g) one_form e) (factors_form gs names) (λ q. sum_of false (factors_end gs (factor_end g)) zero_form q) (products_form qs names)
-          (λ e. and_then (level_with v.level close e) (behind n fs ps c names v.outer v.level close v.results));
-    })
+begins_group symbols n at (Starts g gs qs) close fs ps c names (suc room) f = (
+  mark_at at (codes "("),
+  _,
+  refl,
+  record {
+    next = spot places.Operand names (suc n) room;
+    moves = refl;
+    rest = (g, gs, qs, (close, fs, ps, c));
+    fits = (f.0.0, f.0.1, f.0.2, (f.1, f.2, f.3));
+    spelled = refl;
+    same = λ v.
+        chain_four (factor_form g names) (λ e. product_of (factor_end g) one_form e) (factors_form gs names) (λ q. sum_of false (factors_end gs (factor_end g)) zero_form q) (products_form qs names)
+        (λ e. and_then (level_with v.level close e) (behind n fs ps c names v.outer v.level close v.results));
+  },
+)
 
 begins_operand : (symbols : Bool) (n : ℕ) (g : Factor) (fs : Factors) (ps : Products) (c : Closing n) (names : List (List ℕ)) (room : ℕ)
     → RestFits symbols places.Operand n (g, fs, ps, c) names room → BeginsOperand symbols n (g, fs, ps, c) names room
@@ -260,17 +281,21 @@ BeginsOperator symbols n fs ps c names room = Starts' symbols places.Operator n 
 begins_times : (symbols : Bool) (n : ℕ) (at : ℕ) (g : Factor) (gs : Factors) (ps : Products) (c : Closing n) (names : List (List ℕ)) (room : ℕ)
     → RestFits symbols places.Operator n (Times at g gs, ps, c) names room → BeginsOperator symbols n (Times at g gs) ps c names room
 unfolding mark_sign spot_by gathered_with factor_tokens FactorFits factor_form factors_end
-begins_times symbols n at g gs ps c names room f =
-    (mark_at at (codes "*"), _, refl, record {
-      next = spot places.Operand names n room;
-      moves = refl;
-      rest = (g, gs, ps, c);
-      fits = (f.0.0, f.0.1, f.1, f.2);
-      spelled = refl;
-      same = λ v.
-          chain_two (factor_form g names) (λ x. product_of (factor_end g) v.level.product x) (factors_form gs names)
-          (λ p. and_then (sum_of v.level.subtracts (factors_end gs (factor_end g)) v.level.sum p) (λ e. and_then (products_form ps names e) (closing_means n c names v.outer v.results)));
-    })
+begins_times symbols n at g gs ps c names room f = (
+  mark_at at (codes "*"),
+  _,
+  refl,
+  record {
+    next = spot places.Operand names n room;
+    moves = refl;
+    rest = (g, gs, ps, c);
+    fits = (f.0.0, f.0.1, f.1, f.2);
+    spelled = refl;
+    same = λ v.
+        chain_two (factor_form g names) (λ x. product_of (factor_end g) v.level.product x) (factors_form gs names)
+        (λ p. and_then (sum_of v.level.subtracts (factors_end gs (factor_end g)) v.level.sum p) (λ e. and_then (products_form ps names e) (closing_means n c names v.outer v.results)));
+  },
+)
 
 -- a further product
 next_step : (n : ℕ) (b : Bool) (g : Factor) (gs : Factors) (ps : Products) (c : Closing n) (names : List (List ℕ)) (v : Gathered)
@@ -286,28 +311,36 @@ next_step n b g gs ps c names v =
 begins_plus : (symbols : Bool) (n : ℕ) (at : ℕ) (g : Factor) (gs : Factors) (ps : Products) (c : Closing n) (names : List (List ℕ)) (room : ℕ)
     → RestFits symbols places.Operator n (NoFactor, Plus at g gs ps, c) names room → BeginsOperator symbols n NoFactor (Plus at g gs ps) c names room
 unfolding mark_sign spot_by gathered_with factor_tokens FactorFits factor_form factors_end
-begins_plus symbols n at g gs ps c names room f =
-    (mark_at at (codes "+"), _, refl, record {
-      next = spot places.Operand names n room;
-      moves = refl;
-      rest = (g, gs, ps, c);
-      fits = (f.1.0, f.1.1, f.1.2, f.2);
-      spelled = refl;
-      same = next_step n false g gs ps c names;
-    })
+begins_plus symbols n at g gs ps c names room f = (
+  mark_at at (codes "+"),
+  _,
+  refl,
+  record {
+    next = spot places.Operand names n room;
+    moves = refl;
+    rest = (g, gs, ps, c);
+    fits = (f.1.0, f.1.1, f.1.2, f.2);
+    spelled = refl;
+    same = next_step n false g gs ps c names;
+  },
+)
 
 begins_minus : (symbols : Bool) (n : ℕ) (at : ℕ) (g : Factor) (gs : Factors) (ps : Products) (c : Closing n) (names : List (List ℕ)) (room : ℕ)
     → RestFits symbols places.Operator n (NoFactor, Minus at g gs ps, c) names room → BeginsOperator symbols n NoFactor (Minus at g gs ps) c names room
 unfolding mark_sign spot_by gathered_with factor_tokens FactorFits factor_form factors_end
-begins_minus symbols n at g gs ps c names room f =
-    (mark_at at (codes "-"), _, refl, record {
-      next = spot places.Operand names n room;
-      moves = refl;
-      rest = (g, gs, ps, c);
-      fits = (f.1.0, f.1.1, f.1.2, f.2);
-      spelled = refl;
-      same = next_step n true g gs ps c names;
-    })
+begins_minus symbols n at g gs ps c names room f = (
+  mark_at at (codes "-"),
+  _,
+  refl,
+  record {
+    next = spot places.Operand names n room;
+    moves = refl;
+    rest = (g, gs, ps, c);
+    fits = (f.1.0, f.1.1, f.1.2, f.2);
+    spelled = refl;
+    same = next_step n true g gs ps c names;
+  },
+)
 
 -- a further result
 begins_comma : (symbols : Bool) (at : ℕ) (g : Factor) (gs : Factors) (qs : Products) (ss : List (ℕ × Sum)) (close greater : ℕ) (names : List (List ℕ)) (room : ℕ)
@@ -329,22 +362,26 @@ begins_comma symbols at g gs qs ss close greater names room f =
             then_same (ended v) (λ x. and_then (sum_form (Starts g gs qs) names) (λ e. other_results ss names ((v.results ++ x ∷ []) ++ e ∷ [])))
             (λ x. rest_means places.Operand zero (g, gs, qs, (ss, close, greater)) names (next v x))
             (λ x. chain_four (factor_form g names) (λ y. product_of (factor_end g) one_form y) (factors_form gs names) (λ q. sum_of false (factors_end gs (factor_end g)) zero_form q) (products_form qs names)
-              (λ e. other_results ss names ((v.results ++ x ∷ []) ++ e ∷ [])))
+            (λ e. other_results ss names ((v.results ++ x ∷ []) ++ e ∷ [])))
             ∙ sym (then_then (ended v) (λ e. Ok (next v e)) (rest_means places.Operand zero (g, gs, qs, (ss, close, greater)) names));
       },
     )
 
 begins_results_close : (symbols : Bool) (close greater : ℕ) (names : List (List ℕ)) (room : ℕ) → BeginsOperator symbols zero NoFactor NoProduct ([], close, greater) names room
 unfolding mark_sign spot_by gathered_with factor_tokens FactorFits factor_form factors_end closing_tokens ClosingFits closing_means
-begins_results_close symbols close greater names room =
-    (mark_at close (codes ")"), _, refl, record {
-      next = spot places.ResultsEnd names zero room;
-      moves = refl;
-      rest = greater;
-      fits = tt;
-      spelled = refl;
-      same = λ v. sym (then_then (ended v) (λ e. Ok (record { outer = v.outer; level = new_level; last = v.last; results = v.results ++ e ∷ [] })) (rest_means places.ResultsEnd zero greater names));
-    })
+begins_results_close symbols close greater names room = (
+  mark_at close (codes ")"),
+  _,
+  refl,
+  record {
+    next = spot places.ResultsEnd names zero room;
+    moves = refl;
+    rest = greater;
+    fits = tt;
+    spelled = refl;
+    same = λ v. sym (then_then (ended v) (λ e. Ok (record { outer = v.outer; level = new_level; last = v.last; results = v.results ++ e ∷ [] })) (rest_means places.ResultsEnd zero greater names));
+  },
+)
 
 close_step : (n : ℕ) (close : ℕ) (fs : Factors) (ps : Products) (c : Closing n) (names : List (List ℕ)) (outer : List Level) (v : Gathered) (x : Expr)
     → closing_means (suc n) (close, fs, ps, c) names outer v.results x ≡ and_then (closed outer v close x) (rest_means places.Operator n (fs, ps, c) names)
@@ -355,17 +392,21 @@ close_step n close fs ps c names (l ∷ ls) v x = factor_step n fs ps c names (r
 begins_close : (symbols : Bool) (n : ℕ) (close : ℕ) (fs : Factors) (ps : Products) (c : Closing n) (names : List (List ℕ)) (room : ℕ)
     → RestFits symbols places.Operator (suc n) (NoFactor, NoProduct, (close, fs, ps, c)) names room → BeginsOperator symbols (suc n) NoFactor NoProduct (close, fs, ps, c) names room
 unfolding mark_sign spot_by gathered_with factor_tokens FactorFits factor_form factors_end closing_tokens ClosingFits
-begins_close symbols n close fs ps c names room f =
-    (mark_at close (codes ")"), _, refl, record {
-      next = spot places.Operator names n (suc room);
-      moves = refl;
-      rest = (fs, ps, c);
-      fits = (f.2.0, f.2.1, f.2.2);
-      spelled = refl;
-      same = λ v.
-          then_same (ended v) (closing_means (suc n) (close, fs, ps, c) names v.outer v.results) (λ x. and_then (closed v.outer v close x) (rest_means places.Operator n (fs, ps, c) names)) (close_step n close fs ps c names v.outer v)
-          ∙ sym (then_then (ended v) (closed v.outer v close) (rest_means places.Operator n (fs, ps, c) names));
-    })
+begins_close symbols n close fs ps c names room f = (
+  mark_at close (codes ")"),
+  _,
+  refl,
+  record {
+    next = spot places.Operator names n (suc room);
+    moves = refl;
+    rest = (fs, ps, c);
+    fits = (f.2.0, f.2.1, f.2.2);
+    spelled = refl;
+    same = λ v.
+        then_same (ended v) (closing_means (suc n) (close, fs, ps, c) names v.outer v.results) (λ x. and_then (closed v.outer v close x) (rest_means places.Operator n (fs, ps, c) names)) (close_step n close fs ps c names v.outer v)
+        ∙ sym (then_then (ended v) (closed v.outer v close) (rest_means places.Operator n (fs, ps, c) names));
+  },
+)
 
 begins_operator : (symbols : Bool) (n : ℕ) (fs : Factors) (ps : Products) (c : Closing n) (names : List (List ℕ)) (room : ℕ)
     → RestFits symbols places.Operator n (fs, ps, c) names room → BeginsOperator symbols n fs ps c names room
@@ -382,27 +423,38 @@ opens_same : (names : List (List ℕ)) (n room : ℕ) → (next : Spot) → open
 opens_same names n zero next e = absurd cc
 opens_same names n (suc room) next e = e
 
-first_same : (g : Sign) (text : List ℕ) (names : List (List ℕ)) (n room : ℕ) (next : Spot) → operand_spot g text (spot places.Operand names n room) ≡ Some next → first_result_spot g text (spot places.FirstResult names n room) ≡ Some next
-first_same signs.Minus text names n room next e = e
-first_same signs.Word text names n room next e = e
-first_same signs.Number text names n room next e = e
-first_same signs.Open text names n room next e = opens_same names n room next e
-first_same _ text names n room next e = absurd cc
+first_same : (symbols : Bool) (g : Sign) (text : List ℕ) (names : List (List ℕ)) (n room : ℕ) (next : Spot) → spot_with symbols (operand_step g) text (spot places.Operand names n room) ≡ Some next → spot_with symbols (first_result_step g) text (spot places.FirstResult names n room) ≡ Some next
+first_same symbols signs.Minus text names n room next e = e
+first_same symbols signs.Word text names n room next e = e
+first_same symbols signs.Number text names n room next e = e
+first_same symbols signs.Open text names n room next e = opens_same names n room next e
+first_same symbols _ text names n room next e = absurd cc
+
+first_gathers : (g : Sign) (t : TokenShape) (names : List (List ℕ)) (n room : ℕ) (v : Gathered) → gathers_with (operand_step g) t (spot places.Operand names n room) v ≡ gathers_with (first_result_step g) t (spot places.FirstResult names n room) v
+first_gathers signs.Minus t names n room v = refl
+first_gathers signs.Word t names n room v = refl
+first_gathers signs.Number t names n room v = refl
+first_gathers signs.Open t names n room v = refl
+first_gathers _ t names n room v = refl
 
 begins_first : (symbols : Bool) (n : ℕ) (r : Results n) (names : List (List ℕ)) (room : ℕ) → RestFits symbols places.FirstResult n r names room → Starts' symbols places.FirstResult n r names room
 unfolding mark_sign spot_by gathered_with
 begins_first symbols n (inl r) names room f =
     goes_on symbols (spot places.FirstResult names n room) (spot places.ResultsEnd names n room) (mark_at r.0 (codes ")")) _ _ refl r.1 tt refl (λ v. refl) (λ v. refl)
 begins_first symbols n (inr r) names room f =
-    let b = begins_operand symbols n r.0 r.1 r.2 r.3 names room f in
-    (b.0, b.1, b.2, record {
-      next = b.3.next;
-      moves = first_same (sign_of b.0) b.0.text names n room b.3.next b.3.moves;
-      rest = b.3.rest;
-      fits = b.3.fits;
-      spelled = b.3.spelled;
-      same = b.3.same;
-    })
+    let b = begins_operand symbols n r.0 r.1 r.2 r.3 names room f in (
+      b.0,
+      b.1,
+      b.2,
+      record {
+        next = b.3.next;
+        moves = first_same symbols (sign_of b.0) b.0.text names n room b.3.next b.3.moves;
+        rest = b.3.rest;
+        fits = b.3.fits;
+        spelled = b.3.spelled;
+        same = λ v. b.3.same v ∙ ap (λ (m : Result Gathered MapError). and_then m (rest_means b.3.next.place b.3.next.depth b.3.rest b.3.next.names)) (first_gathers (sign_of b.0) b.0 names n room v);
+      },
+    )
 
 -- ---- everywhere
 

@@ -9,7 +9,8 @@ use Rattle.affine_text.specs.declared.reading.place.Place.{Place}
 use Rattle.affine_text.specs.declared.reading.place.Place.TheVariants as places
 use Rattle.affine_text.specs.Grammar.{Factor, Name, Number, Negative, Group, Factors, NoFactor, Times, Products, NoProduct, Plus, Minus, Sum, Starts, Items, Empty, From, Declared, Symbols, MapTree, mark_at, word_at, number_at, factor_tokens, factors_tokens, products_tokens, sum_tokens, names_tokens, other_names_tokens, other_sums_tokens, sums_tokens, symbols_tokens, results_tokens, factor_end, factors_end, FactorFits, FactorsFit, ProductsFit, SumFits, OtherSumsFit, SumsFit, AreNew, OthersAreNew, IsNew, SymbolsFit, with_others, with_names, with_symbols}
 use Rattle.affine_text.specs.Meaning.{and_then, factor_form, factors_form, products_form, sum_form, other_results, results_form, sum_of}
-use Rattle.affine_text.specs.Reading.{Spot, Level, Gathered, level_with}
+use Rattle.affine_text.specs.declared.reading.level.Level.{Level}
+use Rattle.affine_text.specs.Reading.{Spot, Gathered, level_with}
 
 -- ---- what closes the open parentheses and the list of results
 

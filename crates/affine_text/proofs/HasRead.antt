@@ -94,7 +94,7 @@ rest_spelled : (x : MapTree) → rest_tokens places.Keyword zero (rest_of x) ≡
 unfolding rest_of
 rest_spelled x =
     ap (λ (ts : List TokenShape). word_at x.keyword (codes "affine_map") ∷ mark_at x.less (codes "<") ∷ mark_at x.open_dimensions (codes "(")
-      ∷ names_tokens x.dimensions (mark_at x.close_dimensions (codes ")") ∷ symbols_tokens x.symbols (mark_at x.arrow (codes "->") ∷ mark_at x.open_results (codes "(") ∷ ts)))
+    ∷ names_tokens x.dimensions (mark_at x.close_dimensions (codes ")") ∷ symbols_tokens x.symbols (mark_at x.arrow (codes "->") ∷ mark_at x.open_results (codes "(") ∷ ts)))
     (same_tokens x.results x.close_results x.greater)
 
 tree_spelled : (r : RestAt places.Keyword zero) → map_tokens (tree_of r) ≡ rest_tokens places.Keyword zero r
@@ -106,16 +106,16 @@ pub first_read : (symbols : Bool) → HasRead symbols [] first_spot nothing_gath
 unfolding rest_of tree_of
 first_read symbols = record {
   back = λ after g. (
-      tree_of g.0,
-      record { dimensions = g.1.0; symbols_fit = g.1.1.0; results = back_fits g.0.6.2 (with_symbols (with_names [] g.0.3) g.0.5) g.1.1.1 },
-      tree_spelled g.0 ∙ g.2,
-    );
+    tree_of g.0,
+    record { dimensions = g.1.0; symbols_fit = g.1.1.0; results = back_fits g.0.6.2 (with_symbols (with_names [] g.0.3) g.0.5) g.1.1.1 },
+    tree_spelled g.0 ∙ g.2,
+  );
   on = λ x after is e. (
-      rest_of x,
-      (is.dimensions, (is.symbols_fit, same_fits x.results x.close_results x.greater (names_in x) is.results)),
-      rest_spelled x ∙ e,
-      sym (same_meaning x.results x.close_results x.greater (names_in x)),
-    );
+    rest_of x,
+    (is.dimensions, (is.symbols_fit, same_fits x.results x.close_results x.greater (names_in x) is.results)),
+    rest_spelled x ∙ e,
+    sym (same_meaning x.results x.close_results x.greater (names_in x)),
+  );
 }
 
 -- ---- one token more

@@ -7,9 +7,11 @@ mod CanonicalNames
 mod CanonicalSpaced
 mod CanonicalTokens
 mod Fitting
+mod Digits
 mod Forward
 mod GoesOn
 mod HasRead
+mod Levels
 mod Multiplying
 mod Numbers
 mod OneReading

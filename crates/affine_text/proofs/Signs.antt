@@ -44,15 +44,15 @@ unfolding mark_sign
 told text =
     told_step (bytes_eq text (codes "(")) text signs.Open _ refl
     (told_step (bytes_eq text (codes ")")) text signs.Close _ refl
-      (told_step (bytes_eq text (codes "[")) text signs.OpenBracket _ refl
-        (told_step (bytes_eq text (codes "]")) text signs.CloseBracket _ refl
-          (told_step (bytes_eq text (codes "<")) text signs.Less _ refl
-            (told_step (bytes_eq text (codes ">")) text signs.Greater _ refl
-              (told_step (bytes_eq text (codes ",")) text signs.Comma _ refl
-                (told_step (bytes_eq text (codes "->")) text signs.Arrow _ refl
-                  (told_step (bytes_eq text (codes "+")) text signs.Plus _ refl
-                    (told_step (bytes_eq text (codes "-")) text signs.Minus _ refl
-                      (told_step (bytes_eq text (codes "*")) text signs.Times signs.Other refl (λ m. absurd m)))))))))))
+    (told_step (bytes_eq text (codes "[")) text signs.OpenBracket _ refl
+    (told_step (bytes_eq text (codes "]")) text signs.CloseBracket _ refl
+    (told_step (bytes_eq text (codes "<")) text signs.Less _ refl
+    (told_step (bytes_eq text (codes ">")) text signs.Greater _ refl
+    (told_step (bytes_eq text (codes ",")) text signs.Comma _ refl
+    (told_step (bytes_eq text (codes "->")) text signs.Arrow _ refl
+    (told_step (bytes_eq text (codes "+")) text signs.Plus _ refl
+    (told_step (bytes_eq text (codes "-")) text signs.Minus _ refl
+    (told_step (bytes_eq text (codes "*")) text signs.Times signs.Other refl (λ m. absurd m)))))))))))
 
 by_mark : (start : ℕ) (text : List ℕ) (g : Sign) → mark_sign text ≡ g → IsMark g → mark_at start text ≡ mark_at start (mark_text g)
 by_mark start text g e m = ap (mark_at start) (told text (subst IsMark (sym e) m) ∙ ap mark_text e)
@@ -77,15 +77,15 @@ mark_is_none : (text : List ℕ) (g : Sign) → mark_sign text ≡ g → (IsMark
 unfolding mark_sign
 mark_is_none text g e n o = none_step (bytes_eq text (codes "(")) signs.Open _ g tt
     (none_step (bytes_eq text (codes ")")) signs.Close _ g tt
-      (none_step (bytes_eq text (codes "[")) signs.OpenBracket _ g tt
-        (none_step (bytes_eq text (codes "]")) signs.CloseBracket _ g tt
-          (none_step (bytes_eq text (codes "<")) signs.Less _ g tt
-            (none_step (bytes_eq text (codes ">")) signs.Greater _ g tt
-              (none_step (bytes_eq text (codes ",")) signs.Comma _ g tt
-                (none_step (bytes_eq text (codes "->")) signs.Arrow _ g tt
-                  (none_step (bytes_eq text (codes "+")) signs.Plus _ g tt
-                    (none_step (bytes_eq text (codes "-")) signs.Minus _ g tt
-                      (none_step (bytes_eq text (codes "*")) signs.Times signs.Other g tt (λ f m h. h (sym f))))))))))))
+    (none_step (bytes_eq text (codes "[")) signs.OpenBracket _ g tt
+    (none_step (bytes_eq text (codes "]")) signs.CloseBracket _ g tt
+    (none_step (bytes_eq text (codes "<")) signs.Less _ g tt
+    (none_step (bytes_eq text (codes ">")) signs.Greater _ g tt
+    (none_step (bytes_eq text (codes ",")) signs.Comma _ g tt
+    (none_step (bytes_eq text (codes "->")) signs.Arrow _ g tt
+    (none_step (bytes_eq text (codes "+")) signs.Plus _ g tt
+    (none_step (bytes_eq text (codes "-")) signs.Minus _ g tt
+    (none_step (bytes_eq text (codes "*")) signs.Times signs.Other g tt (λ f m h. h (sym f))))))))))))
     e n o
 
 word_by : (k : Kind) (start : ℕ) (text : List ℕ) → sign_by k text ≡ signs.Word → (record { kind = k; start = start; text = text }) ≡ word_at start text

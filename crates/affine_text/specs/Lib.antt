@@ -1,6 +1,8 @@
 pub mod Canonical
+pub mod Codes
 pub mod Collected
 pub mod Faults
+pub mod Feeding
 pub mod Grammar
 pub mod Meaning
 pub mod Multiples

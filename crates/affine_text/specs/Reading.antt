@@ -11,6 +11,9 @@ use Rattle.affine_text.specs.declared.reading.place.Place.{Place}
 use Rattle.affine_text.specs.declared.reading.place.Place.TheVariants as places
 use Rattle.affine_text.specs.declared.reading.place.Sign.{Sign}
 use Rattle.affine_text.specs.declared.reading.place.Sign.TheVariants as signs
+use Rattle.affine_text.specs.declared.reading.place.Step.{Step}
+use Rattle.affine_text.specs.declared.reading.place.Step.TheVariants as steps
+use Rattle.affine_text.specs.declared.reading.level.Level.{Level}
 use Rattle.affine_text.specs.Grammar.{is_declared}
 use Rattle.affine_text.specs.Collected.{negative_form}
 use Rattle.affine_text.specs.Meaning.{and_then, product_of, sum_of, name_form, number_form, zero_form, one_form}
@@ -40,6 +43,98 @@ sign_by k text = signs.Other
 
 abbrev pub sign_of : TokenShape → Sign
 sign_of t = sign_by t.kind t.text
+
+-- ---- what a token does
+
+abbrev pub keyword_step : Sign → Step
+keyword_step signs.Word = steps.Keyword
+keyword_step g = steps.Bad
+
+-- the place behind this mark
+abbrev pub less_step : Place → Sign → Step
+less_step p signs.Less = steps.Goes p
+less_step p g = steps.Bad
+
+abbrev pub greater_step : Place → Sign → Step
+greater_step p signs.Greater = steps.Goes p
+greater_step p g = steps.Bad
+
+abbrev pub open_step : Place → Sign → Step
+open_step p signs.Open = steps.Goes p
+open_step p g = steps.Bad
+
+abbrev pub arrow_step : Place → Sign → Step
+arrow_step p signs.Arrow = steps.Goes p
+arrow_step p g = steps.Bad
+
+abbrev pub first_dimension_step : Sign → Step
+first_dimension_step signs.Close = steps.Goes places.DimensionsEnd
+first_dimension_step signs.Word = steps.Declares places.DimensionBehind
+first_dimension_step g = steps.Bad
+
+abbrev pub next_name_step : Place → Sign → Step
+next_name_step p signs.Word = steps.Declares p
+next_name_step p g = steps.Bad
+
+abbrev pub dimension_behind_step : Sign → Step
+dimension_behind_step signs.Comma = steps.Goes places.NextDimension
+dimension_behind_step signs.Close = steps.Goes places.DimensionsEnd
+dimension_behind_step g = steps.Bad
+
+abbrev pub dimensions_end_step : Sign → Step
+dimensions_end_step signs.OpenBracket = steps.Symbols
+dimensions_end_step signs.Arrow = steps.Goes places.ResultsOpen
+dimensions_end_step g = steps.Bad
+
+abbrev pub first_symbol_step : Sign → Step
+first_symbol_step signs.CloseBracket = steps.Goes places.SymbolsEnd
+first_symbol_step signs.Word = steps.Declares places.SymbolBehind
+first_symbol_step g = steps.Bad
+
+abbrev pub symbol_behind_step : Sign → Step
+symbol_behind_step signs.Comma = steps.Goes places.NextSymbol
+symbol_behind_step signs.CloseBracket = steps.Goes places.SymbolsEnd
+symbol_behind_step g = steps.Bad
+
+-- where a factor is wanted
+abbrev pub operand_step : Sign → Step
+operand_step signs.Minus = steps.Turn
+operand_step signs.Word = steps.Name
+operand_step signs.Number = steps.Number
+operand_step signs.Open = steps.Open
+operand_step g = steps.Bad
+
+abbrev pub first_result_step : Sign → Step
+first_result_step signs.Close = steps.Goes places.ResultsEnd
+first_result_step g = operand_step g
+
+-- behind a factor
+abbrev pub operator_step : Sign → Step
+operator_step signs.Times = steps.Times
+operator_step signs.Plus = steps.Plus
+operator_step signs.Minus = steps.Minus
+operator_step signs.Comma = steps.Comma
+operator_step signs.Close = steps.Close
+operator_step g = steps.Operator
+
+abbrev pub step_of : Place → Sign → Step
+step_of places.Keyword g = keyword_step g
+step_of places.Less g = less_step places.DimensionsOpen g
+step_of places.DimensionsOpen g = open_step places.FirstDimension g
+step_of places.FirstDimension g = first_dimension_step g
+step_of places.NextDimension g = next_name_step places.DimensionBehind g
+step_of places.DimensionBehind g = dimension_behind_step g
+step_of places.DimensionsEnd g = dimensions_end_step g
+step_of places.FirstSymbol g = first_symbol_step g
+step_of places.NextSymbol g = next_name_step places.SymbolBehind g
+step_of places.SymbolBehind g = symbol_behind_step g
+step_of places.SymbolsEnd g = arrow_step places.ResultsOpen g
+step_of places.ResultsOpen g = open_step places.FirstResult g
+step_of places.FirstResult g = first_result_step g
+step_of places.Operand g = operand_step g
+step_of places.Operator g = operator_step g
+step_of places.ResultsEnd g = greater_step places.Whole g
+step_of places.Whole g = steps.Bad
 
 -- ---- where a reader stands
 
@@ -71,99 +166,31 @@ abbrev pub parts_by : ℕ → Spot → Option Spot
 parts_by zero s = goes places.Operand s
 parts_by (suc depth) s = None
 
--- where a factor is wanted
-abbrev pub operand_spot : Sign → List ℕ → Spot → Option Spot
-operand_spot signs.Minus text s = goes places.Operand s
-operand_spot signs.Word text s = if is_declared s.names text then goes places.Operator s else None
-operand_spot signs.Number text s = goes places.Operator s
-operand_spot signs.Open text s = opens_by s.room s
-operand_spot g text s = None
+-- behind a token that does this, or None where no map's text goes on with it
+abbrev pub spot_with : Bool → Step → List ℕ → Spot → Option Spot
+spot_with symbols steps.Keyword text s = if bytes_eq text (codes "affine_map") then goes places.Less s else None
+spot_with symbols (steps.Goes p) text s = goes p s
+spot_with symbols steps.Symbols text s = if symbols then goes places.FirstSymbol s else None
+spot_with symbols (steps.Declares p) text s = declares p text s
+spot_with symbols steps.Turn text s = goes places.Operand s
+spot_with symbols steps.Name text s = if is_declared s.names text then goes places.Operator s else None
+spot_with symbols steps.Number text s = goes places.Operator s
+spot_with symbols steps.Open text s = opens_by s.room s
+spot_with symbols steps.Times text s = goes places.Operand s
+spot_with symbols steps.Plus text s = goes places.Operand s
+spot_with symbols steps.Minus text s = goes places.Operand s
+spot_with symbols steps.Comma text s = parts_by s.depth s
+spot_with symbols steps.Close text s = closes_by s.depth s
+spot_with symbols steps.Operator text s = None
+spot_with symbols steps.Bad text s = None
 
--- behind a factor
-abbrev pub operator_spot : Sign → Spot → Option Spot
-operator_spot signs.Times s = goes places.Operand s
-operator_spot signs.Plus s = goes places.Operand s
-operator_spot signs.Minus s = goes places.Operand s
-operator_spot signs.Comma s = parts_by s.depth s
-operator_spot signs.Close s = closes_by s.depth s
-operator_spot g s = None
-
-abbrev pub keyword_spot : Sign → List ℕ → Spot → Option Spot
-keyword_spot signs.Word text s = if bytes_eq text (codes "affine_map") then goes places.Less s else None
-keyword_spot g text s = None
-
-abbrev pub wants : Sign → Place → Sign → Spot → Option Spot
-wants signs.Less p signs.Less s = goes p s
-wants signs.Open p signs.Open s = goes p s
-wants signs.Arrow p signs.Arrow s = goes p s
-wants signs.Greater p signs.Greater s = goes p s
-wants wanted p g s = None
-
-abbrev pub first_dimension_spot : Sign → List ℕ → Spot → Option Spot
-first_dimension_spot signs.Close text s = goes places.DimensionsEnd s
-first_dimension_spot signs.Word text s = declares places.DimensionBehind text s
-first_dimension_spot g text s = None
-
-abbrev pub next_name_spot : Place → Sign → List ℕ → Spot → Option Spot
-next_name_spot p signs.Word text s = declares p text s
-next_name_spot p g text s = None
-
-abbrev pub dimension_behind_spot : Sign → Spot → Option Spot
-dimension_behind_spot signs.Comma s = goes places.NextDimension s
-dimension_behind_spot signs.Close s = goes places.DimensionsEnd s
-dimension_behind_spot g s = None
-
-abbrev pub dimensions_end_spot : Bool → Sign → Spot → Option Spot
-dimensions_end_spot symbols signs.OpenBracket s = if symbols then goes places.FirstSymbol s else None
-dimensions_end_spot symbols signs.Arrow s = goes places.ResultsOpen s
-dimensions_end_spot symbols g s = None
-
-abbrev pub first_symbol_spot : Sign → List ℕ → Spot → Option Spot
-first_symbol_spot signs.CloseBracket text s = goes places.SymbolsEnd s
-first_symbol_spot signs.Word text s = declares places.SymbolBehind text s
-first_symbol_spot g text s = None
-
-abbrev pub symbol_behind_spot : Sign → Spot → Option Spot
-symbol_behind_spot signs.Comma s = goes places.NextSymbol s
-symbol_behind_spot signs.CloseBracket s = goes places.SymbolsEnd s
-symbol_behind_spot g s = None
-
-abbrev pub first_result_spot : Sign → List ℕ → Spot → Option Spot
-first_result_spot signs.Close text s = goes places.ResultsEnd s
-first_result_spot g text s = operand_spot g text s
-
--- behind a token, or None where no map's text goes on with it
 unfoldable pub spot_by : Bool → Place → Sign → List ℕ → Spot → Option Spot
-spot_by symbols places.Keyword g text s = keyword_spot g text s
-spot_by symbols places.Less g text s = wants signs.Less places.DimensionsOpen g s
-spot_by symbols places.DimensionsOpen g text s = wants signs.Open places.FirstDimension g s
-spot_by symbols places.FirstDimension g text s = first_dimension_spot g text s
-spot_by symbols places.NextDimension g text s = next_name_spot places.DimensionBehind g text s
-spot_by symbols places.DimensionBehind g text s = dimension_behind_spot g s
-spot_by symbols places.DimensionsEnd g text s = dimensions_end_spot symbols g s
-spot_by symbols places.FirstSymbol g text s = first_symbol_spot g text s
-spot_by symbols places.NextSymbol g text s = next_name_spot places.SymbolBehind g text s
-spot_by symbols places.SymbolBehind g text s = symbol_behind_spot g s
-spot_by symbols places.SymbolsEnd g text s = wants signs.Arrow places.ResultsOpen g s
-spot_by symbols places.ResultsOpen g text s = wants signs.Open places.FirstResult g s
-spot_by symbols places.FirstResult g text s = first_result_spot g text s
-spot_by symbols places.Operand g text s = operand_spot g text s
-spot_by symbols places.Operator g text s = operator_spot g s
-spot_by symbols places.ResultsEnd g text s = wants signs.Greater places.Whole g s
-spot_by symbols places.Whole g text s = None
+spot_by symbols p g text s = spot_with symbols (step_of p g) text s
 
 abbrev pub spot_behind : Bool → Spot → TokenShape → Option Spot
 spot_behind symbols s t = spot_by symbols s.place (sign_of t) t.text s
 
 -- ---- what a reader has gathered
-
--- an expression up to its innermost open parenthesis: the sum so far, whether the product is taken from it,
--- the product so far, and whether the next factor's sign is turned
-pub record Level : Type 0 where
-  pub sum : Expr
-  pub subtracts : Bool
-  pub product : Expr
-  pub negative : Bool
 
 -- the levels around the innermost, from it on outwards, the innermost, the place where the last factor ends, and the results so far
 pub record Gathered : Type 0 where
@@ -223,30 +250,21 @@ abbrev pub close_by : ℕ → Gathered → ℕ → Result Gathered MapError
 close_by zero v at = next_result v
 close_by (suc depth) v at = and_then (ended v) (closed v.outer v at)
 
-abbrev pub operand_gathers : Sign → TokenShape → List (List ℕ) → Gathered → Result Gathered MapError
-operand_gathers signs.Minus t names v = Ok (with_level v (turned v.level))
-operand_gathers signs.Word t names v = with_factor v t.start (name_form names t.text)
-operand_gathers signs.Number t names v = and_then (number_form t.start t.text) (with_factor v t.start)
-operand_gathers signs.Open t names v = Ok (opened v)
-operand_gathers g t names v = Ok v
-
-abbrev pub operator_gathers : Sign → TokenShape → ℕ → Gathered → Result Gathered MapError
-operator_gathers signs.Times t depth v = Ok (with_level v (unturned v.level))
-operator_gathers signs.Plus t depth v = next_product false v
-operator_gathers signs.Minus t depth v = next_product true v
-operator_gathers signs.Comma t depth v = next_result v
-operator_gathers signs.Close t depth v = close_by depth v t.start
-operator_gathers g t depth v = Ok v
-
-abbrev pub gathers_by : Place → Sign → TokenShape → Spot → Gathered → Result Gathered MapError
-gathers_by places.FirstResult g t s v = operand_gathers g t s.names v
-gathers_by places.Operand g t s v = operand_gathers g t s.names v
-gathers_by places.Operator g t s v = operator_gathers g t s.depth v
-gathers_by p g t s v = Ok v
+abbrev pub gathers_with : Step → TokenShape → Spot → Gathered → Result Gathered MapError
+gathers_with steps.Turn t s v = Ok (with_level v (turned v.level))
+gathers_with steps.Name t s v = with_factor v t.start (name_form s.names t.text)
+gathers_with steps.Number t s v = and_then (number_form t.start t.text) (with_factor v t.start)
+gathers_with steps.Open t s v = Ok (opened v)
+gathers_with steps.Times t s v = Ok (with_level v (unturned v.level))
+gathers_with steps.Plus t s v = next_product false v
+gathers_with steps.Minus t s v = next_product true v
+gathers_with steps.Comma t s v = next_result v
+gathers_with steps.Close t s v = close_by s.depth v t.start
+gathers_with step t s v = Ok v
 
 -- what is gathered with a token with which the text goes on, or the fault that it shows
 unfoldable pub gathered_with : Spot → TokenShape → Gathered → Result Gathered MapError
-gathered_with s t v = gathers_by s.place (sign_of t) t s v
+gathered_with s t v = gathers_with (step_of s.place (sign_of t)) t s v
 
 -- before the first token
 abbrev pub first_spot : Spot

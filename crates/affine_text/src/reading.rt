@@ -2,9 +2,11 @@
 
 pub mod collected;
 pub mod fault;
-pub mod law;
+pub mod gathering;
+pub mod level;
 pub mod multiple;
 pub mod names;
+pub mod number;
 pub mod parse;
 pub mod place;
 pub mod reader;

@@ -7,9 +7,9 @@ ghost use Rattle.affine_text.specs.Collected.{constant_form, dimension_form, ter
 ghost use Rattle.affine_text.specs.Meaning.{zero_form};
 ghost use Rattle.affine_text.specs.Multiples.{ascends, times_terms, is_collected, is_sum, value_of, IsMultiple, with_terms, with_constant, Multiplies, AddsTerm, AddsTerms, Adds};
 
-use affine_maps::Expr;
 use crate::reading::fault::NoProduct;
 use crate::reading::multiple::{Multiple, is_zero, product};
+use affine_maps::Expr;
 use payload_ops::{List, Memory, is_in_range};
 use std::alloc::Global;
 use std::collections::BTreeMap;

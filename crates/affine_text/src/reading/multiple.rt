@@ -5,8 +5,8 @@ ghost use Rattle.payload_ops.specs.Numbers.{is_in_range};
 ghost use Rattle.affine_text.specs.Collected.{is_zero, constant_form, dimension_form, has_terms, negative_form};
 ghost use Rattle.affine_text.specs.Multiples.{greatest_of, is_collected, value_of, IsMultiple, multiple_of, TimesGives};
 
-use affine_maps::Expr;
 use crate::reading::fault::NoProduct;
+use affine_maps::Expr;
 use payload_ops::{List, Memory};
 use std::alloc::Global;
 

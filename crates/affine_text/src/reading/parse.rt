@@ -1,8 +1,8 @@
 //! The map at the front of a text.
 
-use affine_maps::AffineMap;
 use crate::reading::fault::MapError;
-use crate::reading::reader::{Fed, Reader};
+use crate::reading::reader::Reader;
+use affine_maps::AffineMap;
 use std::alloc::Global;
 use text_format::{Front, Token, first_front};
 
@@ -22,10 +22,13 @@ pub fn parse_map(alloc: Global, text: &[u8]) -> Result<(AffineMap, u32), MapErro
             }
             Front::Token(kind, n) => {
                 let (bytes, after) = rest.split_at(n);
-                let fed = reader.feed(&Token::new(kind, at as u32, bytes))?;
+                match reader.feed(&Token::new(kind, at as u32, bytes)) {
+                    Ok(()) => {}
+                    Err(e) => return Err(e),
+                }
                 at += n;
                 rest = after;
-                if let Fed::Whole = fed {
+                if reader.is_whole() {
                     return match reader.into_map() {
                         Some(map) => Ok((map, at as u32)),
                         None => Err(MapError::Memory),

@@ -1,288 +1,257 @@
 //! A reader of maps that is fed one token at a time.
 
-use affine_maps::{AffineMap, Expr};
-use crate::reading::collected::{Product, Sum};
-use crate::reading::fault::{MapError, NoProduct};
+ghost use Rattle.std.specs.Prelude.{◌≡◌, ◌↔◌, IsSome, IfSome};
+ghost use Rattle.affine_maps.specs.Map.{IsMap};
+ghost use Rattle.affine_text.specs.declared.reading.place.Step.TheVariants as steps;
+ghost use Rattle.affine_text.specs.declared.reading.place.Place.TheVariants as places;
+ghost use Rattle.affine_text.specs.Reading.{with_factor, next_product};
+ghost use Rattle.affine_text.specs.Feeding.{Answers, goes_with, first_reader, taken, read_with, is_whole, map_read};
+
+use crate::reading::collected::Product;
+use crate::reading::fault::MapError;
+use crate::reading::gathering::Gathering;
 use crate::reading::names::Names;
-use crate::reading::place::{Place, Sign, Step, is_division, next_step, sign_of};
-use payload_ops::{List, Memory};
+use crate::reading::number::number_of;
+use crate::reading::place::{Place, Step, is_division, sign_of, step_of};
+use affine_maps::AffineMap;
 use std::alloc::Global;
-use std::mem::replace;
+use std::marker::Model;
 use text_format::Token;
 
 /// How deep parentheses may nest.
 const DEEPEST: usize = 64;
 
-/// Whether a map's text goes on.
-#[derive(Clone, Copy, Debug, PartialEq, Eq)]
-pub enum Fed {
-    More,
-    /// The token was the last of the map.
-    Whole,
-}
-
-/// What has been read of an expression, up to its innermost open parenthesis.
-#[derive(Drop)]
-struct Level {
-    sum: Sum,
-    /// Whether the product is taken from the sum.
-    subtracts: bool,
-    product: Product,
-    /// Whether the next factor's sign is turned.
-    negative: bool,
-}
-
-impl Level {
-    fn new(alloc: Global) -> Level {
-        Level::from_sum(alloc, Sum::new(alloc), false)
-    }
-
-    /// A sum before its next product.
-    fn from_sum(alloc: Global, sum: Sum, subtracts: bool) -> Level {
-        Level {
-            sum,
-            subtracts,
-            product: Product::of_number(alloc, 1),
-            negative: false,
-        }
-    }
-
-    /// Multiplies the product by a factor.
-    fn take_factor(self, factor: Product) -> Result<Level, NoProduct> {
-        let signed = if self.negative { factor.negated() } else { factor };
-        let product = self.product.times(signed)?;
-        Ok(Level {
-            sum: self.sum,
-            subtracts: self.subtracts,
-            product,
-            negative: false,
-        })
-    }
-
-    /// The sum with the product, where all numbers stay within plus and minus 2^31.
-    fn end_product(self) -> Result<Option<Sum>, Memory> {
-        let signed = if self.subtracts { self.product.negated() } else { self.product };
-        let mut sum = self.sum;
-        if sum.add(&signed)? { Ok(Some(sum)) } else { Ok(None) }
-    }
-}
-
 /// What has been read of a map's text. Its tokens are handed to `feed` in order, from `affine_map`
-/// on, up to the one at which `feed` answers `Whole`; `into_map` then gives the map.
+/// on, up to the one behind which `is_whole` holds; `into_map` then gives the map.
 #[derive(Drop)]
 pub struct Reader<'a> {
     alloc: Global,
     symbols: bool,
     place: Place,
     names: Names<'a>,
-    outer: Vec<Level>,
-    level: Level,
-    /// The place of the last token of the factor that came last.
-    last: u32,
-    results: List<Expr>,
+    gathering: Gathering,
+}
+
+impl<'a> Model for Reader<'a> {
+    ghost use Rattle.std.specs.Prelude.{length};
+    ghost use Rattle.affine_text.specs.Feeding.{ReaderShape, spot_at};
+    ghost use Rattle.affine_text.specs.Codes.{reader_code};
+
+    ghost Value = { ReaderShape };
+
+    ghost coded = { reader_code };
+
+    ghost view = { λ r. record { symbols = r.symbols; spot = spot_at r.place r.names (length r.gathering.outer); gathered = r.gathering } };
 }
 
 impl<'a> Reader<'a> {
     /// A reader before the first token. `symbols` says whether the map may have symbols.
-    pub fn new(alloc: Global, symbols: bool) -> Reader<'a> {
+    pub fn new(alloc: Global, symbols: bool) -> Reader<'a>
+        ensures { result ≡ first_reader symbols }
+    {
         Reader {
             alloc,
             symbols,
             place: Place::Keyword,
             names: Names::new(alloc),
-            outer: Vec::new(alloc),
-            level: Level::new(alloc),
-            last: 0,
-            results: List::new(alloc),
+            gathering: Gathering::new(alloc),
         }
     }
 
     /// Takes the next token.
-    pub fn feed(&mut self, token: &Token<'a>) -> Result<Fed, MapError> {
+    #[tactic(auto, unfolding(crate::specs::Feeding::read_with))]
+    pub fn feed(&mut self, token: &Token<'a>) -> Result<(), MapError>
+        ensures { Answers (read_with self.old token.now) result self.new }
+    {
+        let step = step_of(self.place, sign_of(token));
+        self.take(step, token)
+    }
+
+    /// Whether the map is read.
+    pub fn is_whole(&self) -> bool
+        ensures { result ≡ is_whole self.now.spot.place }
+    {
         match self.place {
-            Place::FirstResult => self.first_result(token)?,
-            Place::Operand => self.operand(token)?,
-            Place::Operator => self.operator(token)?,
-            Place::ResultsEnd => return self.last_token(token),
-            _ => self.head(token)?,
+            Place::Whole => true,
+            _ => false,
         }
-        Ok(Fed::More)
     }
 
-    /// The map that was read.
-    pub fn into_map(self) -> Option<AffineMap> {
-        AffineMap::new(self.names.count(), self.results)
+    /// The map that was read. None: it would be none.
+    pub fn into_map(self) -> Option<AffineMap>
+        ensures valid { IsSome result ↔ IsMap (map_read self.entry) }
+        ensures value { IfSome result (λ m. m ≡ map_read self.entry) }
+    {
+        AffineMap::new(self.names.count(), self.gathering.into_results())
     }
 
-    /// A token before the results.
-    fn head(&mut self, token: &Token<'a>) -> Result<(), MapError> {
-        if let Place::Keyword = self.place && token.text() != b"affine_map".as_slice() {
-            return Err(MapError::BadText(token.start()));
-        }
-        match next_step(self.place, sign_of(token), self.symbols) {
-            Step::Goes(place) => self.place = place,
-            Step::Declares(place) => {
-                if self.names.find(token.text()).is_some() {
-                    return Err(MapError::BadText(token.start()));
-                }
-                self.names.declare(token.text())?;
+    fn take(&mut self, step: Step, token: &Token<'a>) -> Result<(), MapError>
+        ensures { Answers (taken step token.now self.old) result self.new }
+    {
+        match step {
+            Step::Keyword => self.keyword(token),
+            Step::Goes(place) => {
                 self.place = place;
-            }
-            Step::Bad => return Err(MapError::BadText(token.start())),
-        }
-        Ok(())
-    }
-
-    fn first_result(&mut self, token: &Token<'a>) -> Result<(), MapError> {
-        match sign_of(token) {
-            Sign::Close => {
-                self.place = Place::ResultsEnd;
                 Ok(())
             }
-            _ => self.operand(token),
-        }
-    }
-
-    fn last_token(&mut self, token: &Token<'a>) -> Result<Fed, MapError> {
-        match sign_of(token) {
-            Sign::Greater => {
-                self.place = Place::Whole;
-                Ok(Fed::Whole)
-            }
-            _ => Err(MapError::BadText(token.start())),
-        }
-    }
-
-    /// A token where a factor is wanted.
-    fn operand(&mut self, token: &Token<'a>) -> Result<(), MapError> {
-        match sign_of(token) {
-            Sign::Minus => {
-                self.level.negative = !self.level.negative;
+            Step::Symbols => self.open_symbols(token),
+            Step::Declares(place) => self.declare(place, token),
+            Step::Turn => {
+                self.gathering.turn();
                 self.place = Place::Operand;
                 Ok(())
             }
-            Sign::Word => self.name(token),
-            Sign::Number => self.number(token),
-            Sign::Open => self.open(token),
-            _ => Err(MapError::BadText(token.start())),
+            Step::Name => self.name(token),
+            Step::Number => self.number(token),
+            Step::Open => self.open(token),
+            Step::Times => {
+                self.gathering.unturn();
+                self.place = Place::Operand;
+                Ok(())
+            }
+            Step::Plus => self.next_product(false),
+            Step::Minus => self.next_product(true),
+            Step::Comma => self.comma(token),
+            Step::Close => self.close(token),
+            Step::Operator => {
+                if is_division(token) {
+                    Err(MapError::Form(token.start()))
+                } else {
+                    Err(MapError::BadText(token.start()))
+                }
+            }
+            Step::Bad => Err(MapError::BadText(token.start())),
         }
     }
 
-    fn name(&mut self, token: &Token<'a>) -> Result<(), MapError> {
-        match self.names.find(token.text()) {
-            Some(dimension) => {
-                let factor = Product::of_dimension(self.alloc, dimension)?;
-                self.factor(factor, token.start())
+    fn keyword(&mut self, token: &Token<'a>) -> Result<(), MapError>
+        ensures { Answers (taken steps.Keyword token.now self.old) result self.new }
+    {
+        if token.text() != b"affine_map".as_slice() {
+            return Err(MapError::BadText(token.start()));
+        }
+        self.place = Place::Less;
+        Ok(())
+    }
+
+    fn open_symbols(&mut self, token: &Token<'a>) -> Result<(), MapError>
+        ensures { Answers (taken steps.Symbols token.now self.old) result self.new }
+    {
+        if !self.symbols {
+            return Err(MapError::BadText(token.start()));
+        }
+        self.place = Place::FirstSymbol;
+        Ok(())
+    }
+
+    fn declare(&mut self, place: Place, token: &Token<'a>) -> Result<(), MapError>
+        ensures { Answers (taken (steps.Declares place) token.now self.old) result self.new }
+    {
+        if let Some(_) = self.names.find(token.text()) {
+            return Err(MapError::BadText(token.start()));
+        }
+        match self.names.declare(token.text()) {
+            Ok(()) => {
+                self.place = place;
+                Ok(())
             }
+            Err(_) => Err(MapError::Memory),
+        }
+    }
+
+    fn name(&mut self, token: &Token<'a>) -> Result<(), MapError>
+        ensures { Answers (taken steps.Name token.now self.old) result self.new }
+    {
+        match self.names.find(token.text()) {
+            Some(dimension) => match Product::of_dimension(self.alloc, dimension) {
+                Ok(factor) => self.factor(factor, token.start()),
+                Err(_) => Err(MapError::Memory),
+            },
             None => Err(MapError::BadText(token.start())),
         }
     }
 
-    fn number(&mut self, token: &Token<'a>) -> Result<(), MapError> {
+    fn number(&mut self, token: &Token<'a>) -> Result<(), MapError>
+        ensures { Answers (taken steps.Number token.now self.old) result self.new }
+    {
         match number_of(token.text()) {
-            Some(number) => {
-                self.factor(Product::of_number(self.alloc, number as i64), token.start())
-            }
+            Some(number) => self.factor(
+                Product::of_number(self.alloc, number as i64),
+                token.start(),
+            ),
             None => Err(MapError::Range(token.start())),
         }
     }
 
-    fn open(&mut self, token: &Token<'a>) -> Result<(), MapError> {
-        if self.outer.len() == DEEPEST {
-            return Err(MapError::BadText(token.start()));
-        }
-        let outer = replace(&mut self.level, Level::new(self.alloc));
-        match self.outer.push(outer) {
-            Ok(()) => {}
-            Err(_) => return Err(MapError::Memory),
-        }
-        self.place = Place::Operand;
-        Ok(())
-    }
-
     /// A factor that ends at this place.
-    fn factor(&mut self, factor: Product, at: u32) -> Result<(), MapError> {
-        let level = replace(&mut self.level, Level::new(self.alloc));
-        match level.take_factor(factor) {
-            Ok(level) => {
-                self.level = level;
-                self.last = at;
+    fn factor(&mut self, factor: Product, at: u32) -> Result<(), MapError>
+        ensures { Answers (goes_with places.Operator self.old (with_factor self.old.gathered at factor)) result self.new }
+    {
+        match self.gathering.take_factor(factor, at) {
+            Ok(()) => {
                 self.place = Place::Operator;
                 Ok(())
             }
-            Err(NoProduct::Form) => Err(MapError::Form(at)),
-            Err(NoProduct::Range) => Err(MapError::Range(at)),
+            Err(e) => Err(e),
         }
     }
 
-    /// A token behind a factor.
-    fn operator(&mut self, token: &Token<'a>) -> Result<(), MapError> {
-        match sign_of(token) {
-            Sign::Times => {
-                self.level.negative = false;
+    fn open(&mut self, token: &Token<'a>) -> Result<(), MapError>
+        ensures { Answers (taken steps.Open token.now self.old) result self.new }
+    {
+        if self.gathering.depth() >= DEEPEST {
+            return Err(MapError::BadText(token.start()));
+        }
+        match self.gathering.open() {
+            Ok(()) => {
                 self.place = Place::Operand;
                 Ok(())
             }
-            Sign::Plus => self.next_product(false),
-            Sign::Minus => self.next_product(true),
-            Sign::Comma => { if self.outer.is_empty() {
-                self.end_result(Place::Operand)
-            } else {
-                Err(MapError::BadText(token.start()))
-            } }
-            Sign::Close => self.close(token),
-            _ => { if is_division(token) {
-                Err(MapError::Form(token.start()))
-            } else {
-                Err(MapError::BadText(token.start()))
-            } }
+            Err(_) => Err(MapError::Memory),
         }
     }
 
-    /// Ends the innermost expression, whose last token is that of its last factor.
-    fn end_product(&mut self) -> Result<Sum, MapError> {
-        let level = replace(&mut self.level, Level::new(self.alloc));
-        match level.end_product()? {
-            Some(sum) => Ok(sum),
-            None => Err(MapError::Range(self.last)),
-        }
-    }
-
-    fn next_product(&mut self, subtracts: bool) -> Result<(), MapError> {
-        let sum = self.end_product()?;
-        self.level = Level::from_sum(self.alloc, sum, subtracts);
-        self.place = Place::Operand;
-        Ok(())
-    }
-
-    /// Ends a result.
-    fn end_result(&mut self, place: Place) -> Result<(), MapError> {
-        let sum = self.end_product()?;
-        self.results.push(sum.into_form()?)?;
-        self.place = place;
-        Ok(())
-    }
-
-    fn close(&mut self, token: &Token<'a>) -> Result<(), MapError> {
-        match self.outer.pop() {
-            Some(outer) => {
-                let form = self.end_product()?.into_form()?;
-                self.level = outer;
-                self.factor(Product::of_form(self.alloc, form), token.start())
+    fn next_product(&mut self, subtracts: bool) -> Result<(), MapError>
+        ensures { Answers (goes_with places.Operand self.old (next_product subtracts self.old.gathered)) result self.new }
+    {
+        match self.gathering.next_product(subtracts) {
+            Ok(()) => {
+                self.place = Place::Operand;
+                Ok(())
             }
-            None => self.end_result(Place::ResultsEnd),
+            Err(e) => Err(e),
         }
     }
-}
 
-/// The number that the digits write. None: it is above 2^31.
-fn number_of(digits: &[u8]) -> Option<u64> {
-    let mut number = 0u64;
-    for digit in digits {
-        number = number * 10 + (*digit - b'0') as u64;
-        if number > 1 << 31 {
-            return None;
+    fn comma(&mut self, token: &Token<'a>) -> Result<(), MapError>
+        ensures { Answers (taken steps.Comma token.now self.old) result self.new }
+    {
+        if self.gathering.depth() > 0 {
+            return Err(MapError::BadText(token.start()));
+        }
+        match self.gathering.next_result() {
+            Ok(()) => {
+                self.place = Place::Operand;
+                Ok(())
+            }
+            Err(e) => Err(e),
         }
     }
-    Some(number)
+
+    fn close(&mut self, token: &Token<'a>) -> Result<(), MapError>
+        ensures { Answers (taken steps.Close token.now self.old) result self.new }
+    {
+        let place = if self.gathering.depth() == 0 {
+            Place::ResultsEnd
+        } else {
+            Place::Operator
+        };
+        match self.gathering.close(token.start()) {
+            Ok(()) => {
+                self.place = place;
+                Ok(())
+            }
+            Err(e) => Err(e),
+        }
+    }
 }

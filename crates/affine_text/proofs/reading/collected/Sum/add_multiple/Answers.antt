@@ -40,7 +40,7 @@ returns-then-not-branch c =
     let q = c.if-not-add_constant.ensures.done in
     terms_far c.args.self.now c.args.multiple.now z
     (ap (λ (x : Expr). terms_in_range (plus_terms x.terms (times_terms c.args.multiple.now.by c.args.multiple.now.form.terms))) (sym q)
-      ∙ terms_left_range c.add_constant.new.self (times_terms c.args.multiple.now.by c.args.multiple.now.form.terms) c.in_ok-add_terms.field-0 c.add_terms.new.self c.if-not-branch.true c.in_ok-add_terms.ensures)
+    ∙ terms_left_range c.add_constant.new.self (times_terms c.args.multiple.now.by c.args.multiple.now.form.terms) c.in_ok-add_terms.field-0 c.add_terms.new.self c.if-not-branch.true c.in_ok-add_terms.ensures)
 
 pub returns : goal.returns
 returns c =
@@ -50,4 +50,4 @@ returns c =
     let q = c.if-not-add_constant.ensures.done in
     adds_all c.args.self.now c.add_terms.new.self c.args.multiple.now z c.keeps_range-2.ensures
     (stored_sum c.args.self.now c.add_constant.new.self c.add_terms.new.self c.args.multiple.now _ true c.requires n q
-      (terms_added c.add_constant.new.self (times_terms c.args.multiple.now.by c.args.multiple.now.form.terms) c.in_ok-add_terms.field-0 c.add_terms.new.self c.if-not-branch.false c.in_ok-add_terms.ensures))
+    (terms_added c.add_constant.new.self (times_terms c.args.multiple.now.by c.args.multiple.now.form.terms) c.in_ok-add_terms.field-0 c.add_terms.new.self c.if-not-branch.false c.in_ok-add_terms.ensures))

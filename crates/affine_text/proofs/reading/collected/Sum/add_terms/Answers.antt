@@ -16,16 +16,16 @@ returns-then-not-branch c =
     let e = c.as_slice-term-items.ensures in
     subst (λ (ts : List (ℕ × ℤ)). terms_in_range (plus_terms c.args.self.now.terms (times_terms c.args.multiple.now.by ts)) ≡ false) e
     (added_far c.args.multiple.now.by c.as_slice-term-items.result.now c.loop-term.term-index _ c.args.self.now c.loop-term.self (omega arith)
-      (subst (λ (ts : List (ℕ × ℤ)). Adding c.args.multiple.now.by ts c.loop-term.term-index c.args.self.now c.loop-term.self) (sym e) c.loop-term.invariant)
-      (term_far c.loop-term.self _ _ c.in_ok-add_one.field-0 c.add_one.new.self c.if-not-branch.true c.in_ok-add_one.ensures))
+    (subst (λ (ts : List (ℕ × ℤ)). Adding c.args.multiple.now.by ts c.loop-term.term-index c.args.self.now c.loop-term.self) (sym e) c.loop-term.invariant)
+    (term_far c.loop-term.self _ _ c.in_ok-add_one.field-0 c.add_one.new.self c.if-not-branch.true c.in_ok-add_one.ensures))
 
 pub loop-term-preserved : goal.loop-term-preserved
 loop-term-preserved c =
     let e = c.as_slice-term-items.ensures in
     subst (λ (ts : List (ℕ × ℤ)). Adding c.args.multiple.now.by ts (c.loop-term.term-index + 1) c.args.self.now c.add_one.new.self) e
     (added_one c.args.multiple.now.by c.as_slice-term-items.result.now c.loop-term.term-index _ c.args.self.now c.loop-term.self c.add_one.new.self (omega arith)
-      (subst (λ (ts : List (ℕ × ℤ)). Adding c.args.multiple.now.by ts c.loop-term.term-index c.args.self.now c.loop-term.self) (sym e) c.loop-term.invariant)
-      (term_added c.loop-term.self _ _ c.in_ok-add_one.field-0 c.add_one.new.self c.if-not-branch.false c.in_ok-add_one.ensures))
+    (subst (λ (ts : List (ℕ × ℤ)). Adding c.args.multiple.now.by ts c.loop-term.term-index c.args.self.now c.loop-term.self) (sym e) c.loop-term.invariant)
+    (term_added c.loop-term.self _ _ c.in_ok-add_one.field-0 c.add_one.new.self c.if-not-branch.false c.in_ok-add_one.ensures))
 
 pub returns : goal.returns
 returns c = added_all c.args.multiple.now.by c.args.multiple.now.form.terms c.loop-term.term-index c.args.self.now c.loop-term.self (omega (arith, ap length c.as_slice-term-items.ensures)) c.loop-term.invariant

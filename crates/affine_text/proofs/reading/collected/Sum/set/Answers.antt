@@ -9,7 +9,6 @@ use Rattle.affine_text.specs.Multiples.{times_terms, with_terms, is_sum}
 use Rattle.affine_text.proofs.Adding.{sum_coefficient, set_removed, set_inserted, set_kept, Left, left_at, plus_at, far_at, ascends_from, all_above, sum_constant, sum_coefficients}
 use Rattle.affine_text.proofs.Multiplying.{multiple_left, multiple_constant, multiple_small, constant_small, range_small, range_fits, added_number, stored_again, adds_nothing, constant_far, terms_far, adds_all, stored_zero, small_fits}
 use Rattle.affine_text.proofs.reading.collected.Sum.set.Goals as goal
-
 use Rattle.affine_text.proofs.reading.collected.Sum.set.Goals.{in-Ok, in-Err}
 
 pub invariant_of-self : goal.invariant_of-self
