@@ -1,7 +1,8 @@
 //! The canonical text of a map.
 
-ghost use Rattle.std.specs.Prelude.{◌≡◌, [], ◌++◌, OnOk, IfOk, decimal};
+ghost use Rattle.std.specs.Prelude.{◌≡◌, ℕ, Bool, List as Sequence, [], ◌++◌, length, OnOk, IfOk, decimal};
 ghost use Rattle.std.specs.Fmt.{signed_decimal};
+ghost use Rattle.affine_text.specs.Faults.{stream_of, IsMapText};
 ghost use Rattle.affine_text.specs.Text.{dimension_text, is_one, is_minus_one, first_term_text, sign_text, times_text, term_text, terms_text, constant_text, expr_text, comma_before, dimensions_text, exprs_text, head_text, text_of_map};
 
 use affine_maps::{AffineMap, Expr};
@@ -160,11 +161,11 @@ fn write_head(out: &mut Vec<u8>, dims: u32) -> Result<(), Memory>
 }
 
 #[tactic(auto, unfolding(crate::specs::Text::text_of_map))]
-fn write_map(out: &mut Vec<u8>, map: &AffineMap) -> Result<(), Memory>
-    ensures { OnOk result (out.new.items ≡ out.old.items ++ text_of_map map.now) }
+fn write_map(out: &mut Vec<u8>, dims: u32, results: &[Expr]) -> Result<(), Memory>
+    ensures { OnOk result (out.new.items ≡ out.old.items ++ text_of_map (record { dims = dims; results = results.now })) }
 {
-    write_head(out, map.dims())?;
-    write_exprs(out, map.results().as_slice())?;
+    write_head(out, dims)?;
+    write_exprs(out, results)?;
     out.extend_from_slice(b")>")?;
     Ok(())
 }
@@ -172,10 +173,12 @@ fn write_map(out: &mut Vec<u8>, map: &AffineMap) -> Result<(), Memory>
 /// The canonical text of a map: `affine_map<(d0, d1) -> (d0 + d1 * 2 - 1)>`, where each result has
 /// its terms in the order of dimensions and its constant last.
 pub fn map_text(alloc: Global, map: &AffineMap) -> Result<List<u8>, Memory>
-    ensures { IfOk result (λ text. text ≡ text_of_map map.now) }
+    ensures text { IfOk result (λ text. text ≡ text_of_map map.now) }
+    // It is read as that map, whatever stands behind it.
+    ensures reads_back { IfOk result (λ text. (rest : Sequence ℕ) (symbols : Bool) → IsMapText symbols (stream_of (text ++ rest)) map.now (length text)) }
 {
     let mut out = Vec::new(alloc);
-    write_map(&mut out, map)?;
+    write_map(&mut out, map.dims(), map.results().as_slice())?;
     Ok(List::from_vec(out))
 }
 
