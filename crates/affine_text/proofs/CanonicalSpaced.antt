@@ -148,3 +148,7 @@ pub map_spaced : (c : Class) (m : MapShape) → IsMap m → m.dims ≤ 2 ^ 32 �
 map_spaced c m i d rest =
     let h = front_well c m d (results_over m.dims m.results i) in
     spaced_append (map_front c m) (Fixed lexemes.Greater ∷ []) rest (h.spaced (codes ">" ++ rest) refl) ((lexeme_closed lexemes.Greater refl).ends rest, tt)
+
+-- so anything may come behind them in a longer list
+pub map_then : (c : Class) (m : MapShape) {ps : List Piece} → IsMap m → m.dims ≤ 2 ^ 32 → IsApart ps → IsApart (map_pieces c m ++ ps)
+map_then c m {ps = ps} i d h = record { spaced = λ rest t. spaced_append (map_pieces c m) ps rest (map_spaced c m i d (bytes_of ps ++ rest)) (h.spaced rest t) }

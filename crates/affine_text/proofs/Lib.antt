@@ -1,11 +1,11 @@
 mod Adding
 mod Backward
-mod CanonicalBytes
-mod CanonicalFits
-mod CanonicalMeaning
+pub mod CanonicalBytes
+pub mod CanonicalFits
+pub mod CanonicalMeaning
 mod CanonicalNames
-mod CanonicalSpaced
-mod CanonicalTokens
+pub mod CanonicalSpaced
+pub mod CanonicalTokens
 mod Fitting
 mod Digits
 mod Forward
@@ -14,10 +14,10 @@ mod HasRead
 mod Levels
 mod Multiplying
 mod Numbers
-mod OneReading
+pub mod OneReading
 mod Probe
-mod ReadsBack
+pub mod ReadsBack
 mod Scaling
 mod Signs
-mod Streams
+pub mod Streams
 mod Written

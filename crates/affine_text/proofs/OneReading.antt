@@ -4,12 +4,12 @@ use Rattle.std.proofs.lemmas.List.{append-nil}
 use Rattle.text_format.specs.Token.{TokenShape}
 use Rattle.affine_maps.specs.Shape.{MapShape}
 use Rattle.affine_text.specs.declared.reading.fault.MapError.{MapError}
-use Rattle.affine_text.specs.declared.reading.fault.MapError.TheVariants.{BadText, Form}
+use Rattle.affine_text.specs.declared.reading.fault.MapError.TheVariants.{BadText, Form, Range, Memory}
 use Rattle.affine_text.specs.declared.reading.place.Place.{Place}
 use Rattle.affine_text.specs.declared.reading.place.Place.TheVariants as places
 use Rattle.affine_text.specs.Grammar.{MapTree, map_tokens, IsMapTree}
 use Rattle.affine_text.specs.Meaning.{meaning}
-use Rattle.affine_text.specs.Faults.{Stream, Begins, Spells, AllHave, IsFormAt, Stops, FaultWithin, FaultBehind, IsFirstFault, IsMapText}
+use Rattle.affine_text.specs.Faults.{Stream, Begins, Spells, AllHave, IsFormAt, Stops, FaultWithin, FaultBehind, IsFirstFault, IsMapText, IsAnswer}
 use Rattle.affine_text.specs.Reading.{Spot, Gathered, spot_behind, gathered_with, first_spot, nothing_gathered}
 use Rattle.affine_text.proofs.GoesOn.{RestAt, rest_tokens, RestFits, rest_means}
 use Rattle.affine_text.proofs.Forward.{Onward, forward, then_same, IsWholeAt, begins}
@@ -198,3 +198,34 @@ in_order symbols us vs ws xs end f g e p q =
 
 pub fault_and_fault : (symbols : Bool) (s : Stream) (f g : MapError) → IsFirstFault symbols s f → IsFirstFault symbols s g → f ≡ g
 fault_and_fault symbols s f g p q = in_order symbols p.0 p.1 q.0 q.1 s.end f g (sym p.2 ∙ q.2) p.3 q.3
+
+-- ---- two answers
+
+-- what an answer says
+data Says (symbols : Bool) (s : Stream) (r : Result (MapShape × ℕ) MapError) : Type 0 where
+  AMap : (m : MapShape × ℕ) → r ≡ Ok m → IsMapText symbols s m.0 m.1 → Says symbols s r
+  AFault : (f : MapError) → r ≡ Err f → IsFirstFault symbols s f → Says symbols s r
+  Nothing : r ≡ Err Memory → Says symbols s r
+
+says : (symbols : Bool) (s : Stream) (r : Result (MapShape × ℕ) MapError) → IsAnswer symbols s r → Says symbols s r
+says symbols s (Ok m) h = AMap m refl h
+says symbols s (Err Memory) h = Nothing refl
+says symbols s (Err (BadText at)) h = AFault (BadText at) refl h
+says symbols s (Err (Form at)) h = AFault (Form at) refl h
+says symbols s (Err (Range at)) h = AFault (Range at) refl h
+
+abbrev IsOne : Result (MapShape × ℕ) MapError → Result (MapShape × ℕ) MapError → Type 0
+IsOne r q = (r ≡ q) ⊎ ((r ≡ Err Memory) ⊎ (q ≡ Err Memory))
+
+both_say : (symbols : Bool) (s : Stream) (r q : Result (MapShape × ℕ) MapError) → Says symbols s r → Says symbols s q → IsOne r q
+both_say symbols s r q (Nothing d) b = inr (inl d)
+both_say symbols s r q a (Nothing e) = inr (inr e)
+both_say symbols s r q (AMap m d h) (AMap o e k) =
+    let same = map_and_map symbols s m.0 o.0 m.1 o.1 h k in
+    inl (d ∙ ap (λ (x : MapShape). Ok (x, m.1)) same.0 ∙ ap (λ (n : ℕ). Ok (o.0, n)) same.1 ∙ sym e)
+both_say symbols s r q (AMap m d h) (AFault f e k) = absurd (map_and_fault symbols s m.0 m.1 f h k)
+both_say symbols s r q (AFault f d h) (AMap m e k) = absurd (map_and_fault symbols s m.0 m.1 f k h)
+both_say symbols s r q (AFault f d h) (AFault g e k) = inl (d ∙ ap (λ (x : MapError). Err x) (fault_and_fault symbols s f g h k) ∙ sym e)
+
+pub two_answers : (symbols : Bool) (s : Stream) (r q : Result (MapShape × ℕ) MapError) → IsAnswer symbols s r → IsAnswer symbols s q → (r ≡ q) ⊎ ((r ≡ Err Memory) ⊎ (q ≡ Err Memory))
+two_answers symbols s r q a b = both_say symbols s r q (says symbols s r a) (says symbols s q b)

@@ -1,12 +1,13 @@
 //! Laws of the text of maps. Their functions have no code: each contract is a law.
 
-ghost use Rattle.std.specs.Prelude.{◌≡◌, ◌≤◌, ◌^◌, ℕ, Bool, List, ◌++◌, length, Ok};
+ghost use Rattle.std.specs.Prelude.{◌≡◌, ◌≤◌, ◌^◌, ℕ, Bool, List, ◌++◌, length, ◌⊎◌, Result, Ok, Err};
 ghost use Rattle.affine_maps.specs.Map.{IsMap};
 ghost use Rattle.affine_maps.specs.Shape.{MapShape};
 ghost use Rattle.text_format.specs.declared.class.Class.{Class};
 ghost use Rattle.text_format.specs.Pieces.{bytes_of, shapes_at, IsSpaced};
 ghost use Rattle.affine_text.specs.declared.reading.fault.MapError.{MapError};
-ghost use Rattle.affine_text.specs.Faults.{Stream, stream_of, IsMapText, IsFirstFault};
+ghost use Rattle.affine_text.specs.declared.reading.fault.MapError.TheVariants.{Memory};
+ghost use Rattle.affine_text.specs.Faults.{Stream, stream_of, IsMapText, IsFirstFault, IsAnswer};
 ghost use Rattle.affine_text.specs.Grammar.{IsMapTree, map_tokens};
 ghost use Rattle.affine_text.specs.Meaning.{meaning};
 ghost use Rattle.affine_text.specs.Canonical.{map_pieces, map_tree};
@@ -14,6 +15,8 @@ ghost use Rattle.affine_text.specs.Text.{text_of_map};
 
 /// Reading has one answer. There is nothing to run.
 pub fn one_reading()
+    // Two answers to one text are the same, memory alone being free.
+    ensures answer { (symbols : Bool) (s : Stream) (r : Result (MapShape × ℕ) MapError) (q : Result (MapShape × ℕ) MapError) → IsAnswer symbols s r → IsAnswer symbols s q → (r ≡ q) ⊎ ((r ≡ Err Memory) ⊎ (q ≡ Err Memory)) }
     // At the front of a text stands one map at most, and it has one length.
     ensures map { (symbols : Bool) (s : Stream) (m : MapShape) (o : MapShape) (n : ℕ) (k : ℕ) → IsMapText symbols s m n → IsMapText symbols s o k → (m ≡ o) × (n ≡ k) }
     // Where a map stands there is no fault.

@@ -1,4 +1,4 @@
-use Rattle.affine_text.proofs.OneReading.{map_and_map, map_and_fault, fault_and_fault}
+use Rattle.affine_text.proofs.OneReading.{map_and_map, map_and_fault, fault_and_fault, two_answers}
 use Rattle.affine_text.proofs.laws.one_reading.Goals as goal
 
 pub returns-clause-map : goal.returns-clause-map
@@ -9,3 +9,6 @@ returns-clause-no_fault c = map_and_fault
 
 pub returns-clause-fault : goal.returns-clause-fault
 returns-clause-fault c = fault_and_fault
+
+pub returns-clause-answer : goal.returns-clause-answer
+returns-clause-answer c = two_answers
