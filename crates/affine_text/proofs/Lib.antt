@@ -15,6 +15,7 @@ mod Levels
 mod Multiplying
 mod Numbers
 pub mod OneReading
+pub mod OneTree
 mod Probe
 pub mod ReadsBack
 mod Scaling

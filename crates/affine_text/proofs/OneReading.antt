@@ -13,6 +13,7 @@ use Rattle.affine_text.specs.Faults.{Stream, Begins, Spells, AllHave, IsFormAt, 
 use Rattle.affine_text.specs.Reading.{Spot, Gathered, spot_behind, gathered_with, first_spot, nothing_gathered}
 use Rattle.affine_text.proofs.GoesOn.{RestAt, rest_tokens, RestFits, rest_means}
 use Rattle.affine_text.proofs.Forward.{Onward, forward, then_same, IsWholeAt, begins}
+use Rattle.affine_text.proofs.OneTree.{one_tree}
 use Rattle.affine_text.proofs.HasRead.{Onto, first_read}
 
 -- ---- from one spot
@@ -24,9 +25,6 @@ only_whole _ w = absurd w
 ended : (p : Place) (n : ℕ) (r : RestAt p n) → IsWholeAt p → rest_tokens p n r ≡ []
 ended p n r w = subst (λ (x : Place). (q : RestAt x n) → rest_tokens x n q ≡ []) (sym (only_whole p w)) (λ q. refl) r
 
-ends_alike : (p : Place) (n : ℕ) (r q : RestAt p n) (names : List (List ℕ)) (v : Gathered) → IsWholeAt p → rest_means p n r names v ≡ rest_means p n q names v
-ends_alike p n r q names v w = subst (λ (x : Place). (a b : RestAt x n) → rest_means x n a names v ≡ rest_means x n b names v) (sym (only_whole p w)) (λ a b. refl) r q
-
 some_same : {A : Type 0} (a b : A) → Some a ≡ Some b → a ≡ b
 some_same a b e = cc
 
@@ -36,33 +34,28 @@ onto : (symbols : Bool) (t : TokenShape) (s next : Spot) (ts : List TokenShape) 
 onto symbols t s next ts r o e =
     subst (λ (n : Spot). Onto symbols t s n ts (rest_means s.place s.depth r s.names)) (some_same o.next next (sym o.moves ∙ e)) (record { rest = o.rest; fits = o.fits; spelled = o.spelled; same = o.same })
 
--- where tokens go on from a spot up to the end of a map, no longer ones do, and they mean the same
+-- where tokens go on from a spot up to the end of a map, no longer ones do
 one_rest : (symbols : Bool) (ts : List TokenShape) (s : Spot) (r q : RestAt s.place s.depth) (after : List TokenShape)
-    → RestFits symbols s.place s.depth r s.names s.room → RestFits symbols s.place s.depth q s.names s.room → rest_tokens s.place s.depth r ≡ ts → rest_tokens s.place s.depth q ≡ ts ++ after
-    → (after ≡ []) × ((v : Gathered) → rest_means s.place s.depth r s.names v ≡ rest_means s.place s.depth q s.names v)
+    → RestFits symbols s.place s.depth r s.names s.room → RestFits symbols s.place s.depth q s.names s.room → rest_tokens s.place s.depth r ≡ ts → rest_tokens s.place s.depth q ≡ ts ++ after → after ≡ []
 one_rest symbols [] s r q after f g d e =
     elim (begins symbols s.place s.depth r s.names s.room f) [
-      | inl w ↦ (sym e ∙ ended s.place s.depth q w, λ v. ends_alike s.place s.depth r q s.names v w)
+      | inl w ↦ sym e ∙ ended s.place s.depth q w
       | inr b ↦ absurd (cc (sym d ∙ b.2))
     ]
 one_rest symbols (t ∷ ts) s r q after f g d e =
     let o = forward symbols s r t ts f d in
     let p = onto symbols t s o.next (ts ++ after) q (forward symbols s q t (ts ++ after) g e) o.moves in
-    let h = one_rest symbols ts o.next o.rest p.rest after o.fits p.fits o.spelled p.spelled in
-    (
-      h.0,
-      λ v. o.same v ∙ then_same (gathered_with s t v) (rest_means o.next.place o.next.depth o.rest o.next.names) (rest_means o.next.place o.next.depth p.rest o.next.names) h.1 ∙ sym (p.same v),
-    )
+    one_rest symbols ts o.next o.rest p.rest after o.fits p.fits o.spelled p.spelled
 
 -- ---- maps' texts
 
--- no map's text goes on behind another, and the same tokens mean the same
-one_map : (symbols : Bool) (x y : MapTree) (after : List TokenShape) → IsMapTree symbols x → IsMapTree symbols y → map_tokens y ≡ map_tokens x ++ after → (after ≡ []) × (meaning x ≡ meaning y)
+-- no map's text goes on behind another, and the same tokens are the same tree
+one_map : (symbols : Bool) (x y : MapTree) (after : List TokenShape) → IsMapTree symbols x → IsMapTree symbols y → map_tokens y ≡ map_tokens x ++ after → (after ≡ []) × (x ≡ y)
 one_map symbols x y after i j e =
     let r = (first_read symbols).on x (map_tokens x) i refl in
     let q = (first_read symbols).on y (map_tokens x ++ after) j e in
-    let o = one_rest symbols (map_tokens x) first_spot r.0 q.0 after r.1 q.1 r.2 q.2 in
-    (o.0, r.3 ∙ o.1 nothing_gathered ∙ sym q.3)
+    let none = one_rest symbols (map_tokens x) first_spot r.0 q.0 after r.1 q.1 r.2 q.2 in
+    (none, one_tree x y (sym (e ∙ ap (λ (ts : List TokenShape). map_tokens x ++ ts) none ∙ append-nil (map_tokens x))))
 
 -- ---- two fronts of the same tokens
 
@@ -107,7 +100,7 @@ err_same : (r : Result MapShape MapError) (f g : MapError) → r ≡ Err f → r
 err_same r f g d e = cc
 
 both_maps : (symbols : Bool) (x y : MapTree) (ts us : List TokenShape) (t u : TokenShape) (after rest : List TokenShape) → IsMapTree symbols x → IsMapTree symbols y → map_tokens x ≡ ts ++ t ∷ [] → map_tokens y ≡ us ++ u ∷ []
-    → (ts ++ t ∷ []) ++ after ≡ (us ++ u ∷ []) ++ rest → (t ≡ u) × (meaning x ≡ meaning y)
+    → (ts ++ t ∷ []) ++ after ≡ (us ++ u ∷ []) ++ rest → (t ≡ u) × (x ≡ y)
 both_maps symbols x y ts us t u after rest i j d e h =
     elim (fronts_of (ts ++ t ∷ []) after (us ++ u ∷ []) rest h) [
       | Longer zs f g ↦
@@ -121,7 +114,7 @@ both_maps symbols x y ts us t u after rest i j d e h =
 pub map_and_map : (symbols : Bool) (s : Stream) (m o : MapShape) (n k : ℕ) → IsMapText symbols s m n → IsMapText symbols s o k → (m ≡ o) × (n ≡ k)
 map_and_map symbols s m o n k p q =
     let c = both_maps symbols p.0 q.0 p.1 q.1 p.2 q.2 p.3 q.3 p.4 q.4 p.5 q.5 (sym p.6 ∙ q.6) in
-    (ok_same (meaning p.0) m o p.7 (c.1 ∙ q.7), p.8 ∙ ap (λ (t : TokenShape). t.start + length t.text) c.0 ∙ sym q.8)
+    (ok_same (meaning p.0) m o p.7 (ap meaning c.1 ∙ q.7), p.8 ∙ ap (λ (t : TokenShape). t.start + length t.text) c.0 ∙ sym q.8)
 
 -- ---- a map and a fault
 

@@ -8,7 +8,7 @@ ghost use Rattle.text_format.specs.Pieces.{bytes_of, shapes_at, IsSpaced};
 ghost use Rattle.affine_text.specs.declared.reading.fault.MapError.{MapError};
 ghost use Rattle.affine_text.specs.declared.reading.fault.MapError.TheVariants.{Memory};
 ghost use Rattle.affine_text.specs.Faults.{Stream, stream_of, IsMapText, IsFirstFault, IsAnswer};
-ghost use Rattle.affine_text.specs.Grammar.{IsMapTree, map_tokens};
+ghost use Rattle.affine_text.specs.Grammar.{MapTree, IsMapTree, map_tokens};
 ghost use Rattle.affine_text.specs.Meaning.{meaning};
 ghost use Rattle.affine_text.specs.Canonical.{map_pieces, map_tree};
 ghost use Rattle.affine_text.specs.Text.{text_of_map};
@@ -23,6 +23,8 @@ pub fn one_reading()
     ensures no_fault { (symbols : Bool) (s : Stream) (m : MapShape) (n : ℕ) (fault : MapError) → IsMapText symbols s m n → IsFirstFault symbols s fault → ⊥ }
     // There is one first fault at most.
     ensures fault { (symbols : Bool) (s : Stream) (f : MapError) (g : MapError) → IsFirstFault symbols s f → IsFirstFault symbols s g → f ≡ g }
+    // Tokens spell one tree at most.
+    ensures tree { (x : MapTree) (y : MapTree) → map_tokens x ≡ map_tokens y → x ≡ y }
 {}
 
 /// The canonical text of a map in pieces. There is nothing to run.

@@ -1,4 +1,5 @@
 use Rattle.affine_text.proofs.OneReading.{map_and_map, map_and_fault, fault_and_fault, two_answers}
+use Rattle.affine_text.proofs.OneTree.{one_tree}
 use Rattle.affine_text.proofs.laws.one_reading.Goals as goal
 
 pub returns-clause-map : goal.returns-clause-map
@@ -12,3 +13,6 @@ returns-clause-fault c = fault_and_fault
 
 pub returns-clause-answer : goal.returns-clause-answer
 returns-clause-answer c = two_answers
+
+pub returns-clause-tree : goal.returns-clause-tree
+returns-clause-tree c = one_tree
