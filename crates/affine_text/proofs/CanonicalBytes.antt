@@ -1,5 +1,5 @@
 -- The pieces of a map's canonical text are its bytes.
-use Rattle.std.proofs.Common.{◌≡◌, ℕ, zero, suc, ◌+◌, ◌==◌, Bool, true, false, cond, ℤ, pos, negsuc, List, [], ◌∷◌, ◌++◌, map, length, unsigned_abs, codes, decimal, refl, sym, ap, ◌∙◌, append_assoc, arith}
+use Rattle.std.proofs.Common.{◌≡◌, ℕ, zero, suc, ◌+◌, ◌==◌, Bool, true, false, cond, ℤ, pos, negsuc, List, [], ◌∷◌, ◌++◌, map, unsigned_abs, codes, decimal, refl, sym, ap, ◌∙◌, append_assoc, arith}
 use Rattle.std.specs.Fmt.{signed_decimal}
 use Rattle.std.proofs.lemmas.List.{append-nil}
 use Rattle.text_format.specs.declared.class.Class.{Class}
@@ -9,8 +9,8 @@ use Rattle.text_format.specs.Pieces.{Piece, Fixed, Leaf, piece_text, bytes_of}
 use Rattle.affine_maps.specs.Shape.{MapShape}
 use Rattle.affine_maps.specs.declared.map.Expr.{Expr}
 use Rattle.affine_text.specs.Grammar.{Products}
-use Rattle.affine_text.specs.Text.{dimension_text, is_one, is_minus_one, first_term_text, sign_text, times_text, term_text, terms_text, constant_text, expr_text_by, expr_text, comma_before, dimensions_text, exprs_text, head_text, text_of_map}
-use Rattle.affine_text.specs.Canonical.{Writer, Product, space, operator, negative, dimension, number, signed_number, times, first_term, multiple, joined, constant, later_terms, no_product, alone, expression_by, expression, others, items, declared_from, dimensions, results, map_front, map_pieces}
+use Rattle.affine_text.specs.Text.{dimension_text, is_one, is_minus_one, first_term_text, sign_text, times_text, term_text, terms_text, constant_text, expr_text_by, expr_text, dimensions_text, exprs_text, head_text, text_of_map}
+use Rattle.affine_text.specs.Canonical.{Writer, Product, space, operator, negative, dimension, number, signed_number, times, first_term, multiple, joined, constant, later_terms, no_product, alone, expression_by, expression, others, declared_from, dimensions, results, map_front, map_pieces}
 
 abbrev pub written : {A : Type 0} → Writer A → List ℕ
 written w = bytes_of w.pieces

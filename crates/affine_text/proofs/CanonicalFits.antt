@@ -1,15 +1,15 @@
 -- The canonical tree of a map is a map's tree.
-use Rattle.std.proofs.Common.{◌≡◌, ◌<◌, ◌≤◌, ◌^◌, ℕ, zero, suc, ◌+◌, ◌==◌, Bool, true, false, cond, ℤ, pos, negsuc, List, [], ◌∷◌, ◌++◌, map, unsigned_abs, refl, sym, ap, subst, ◌∙◌, arith}
+use Rattle.std.proofs.Common.{◌<◌, ◌≤◌, ◌^◌, ℕ, suc, ◌+◌, ◌==◌, Bool, true, false, cond, ℤ, pos, negsuc, List, [], ◌∷◌, map, unsigned_abs, sym, ap, subst}
 use Rattle.std.specs.Prelude.{is_some}
 use Rattle.std.specs.List.{AllByRecursion}
 use Rattle.text_format.specs.declared.class.Class.{Class}
 use Rattle.affine_maps.specs.Shape.{MapShape}
 use Rattle.affine_maps.specs.declared.map.Expr.{Expr}
 use Rattle.affine_maps.specs.Map.{IsMap}
-use Rattle.affine_text.specs.Grammar.{Factor, Factors, Products, Items, IsMapTree, FactorFits, FactorsFit, ProductsFit, SumFits, OtherSumsFit, SumsFit, names_in, deepest}
+use Rattle.affine_text.specs.Grammar.{Factor, Products, IsMapTree, FactorFits, FactorsFit, ProductsFit, SumFits, OtherSumsFit, SumsFit, deepest}
 use Rattle.affine_text.specs.Text.{is_one, is_minus_one}
-use Rattle.affine_text.specs.Canonical.{Writer, behind, Product, negative, dimension, number, signed_number, times, first_term, multiple, joined, constant, later_terms, no_product, alone, expression_by, expression, others, declared_from, dimensions, results, map_tree}
-use Rattle.affine_text.proofs.Fitting.{IsTerm, AreTerms, IsOver, results_over}
+use Rattle.affine_text.specs.Canonical.{Writer, behind, Product, negative, dimension, number, signed_number, times, first_term, multiple, joined, later_terms, no_product, alone, expression_by, expression, others, dimensions, results, map_tree}
+use Rattle.affine_text.proofs.Fitting.{AreTerms, IsOver, results_over}
 use Rattle.affine_text.proofs.CanonicalNames.{AreNumbered, numbered, names_to, dimensions_new, dimensions_named}
 
 -- wherever it begins, the tree's names are these

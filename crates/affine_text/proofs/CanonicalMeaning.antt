@@ -1,32 +1,29 @@
 -- The canonical tree of a map is a map's tree and means the map.
-use Rattle.std.proofs.Common.{◌≡◌, ◌<◌, ◌≤◌, ◌^◌, ℕ, zero, suc, ◌+◌, ◌==◌, Bool, true, false, cond, ◌&&◌, ℤ, pos, negsuc, ◌+ℤ◌, ◌*ℤ◌, List, [], ◌∷◌, ◌++◌, map, length, unsigned_abs, codes, decimal, nat_eq, nat_le, Option, Some, None, unwrap_or, Result, Ok, Err, refl, sym, ap, subst, ◌∙◌, append_assoc, arith}
-use Rattle.std.specs.Prelude.{is_some}
+use Rattle.std.proofs.Common.{◌≡◌, ◌<◌, ◌≤◌, ◌^◌, ℕ, suc, ◌+◌, Bool, true, false, cond, ℤ, pos, negsuc, ◌+ℤ◌, ◌*ℤ◌, List, [], ◌∷◌, ◌++◌, map, length, unsigned_abs, decimal, nat_eq, Option, None, unwrap_or, Result, Ok, refl, sym, ap, ◌∙◌, append_assoc, arith}
 use Rattle.std.specs.List.{AllByRecursion}
 use Rattle.std.specs.Map.{lookup}
 use Rattle.std.specs.Ordering.{nat_cmp, is_eq, match_ordering}
 use Rattle.std.specs.Cmp.{nat_cmp_is}
-use Rattle.std.specs.declared.cmp.Ordering.{Ordering}
-use Rattle.std.specs.declared.cmp.Ordering.TheVariants.{Less, Equal, Greater}
+use Rattle.std.specs.declared.cmp.Ordering.TheVariants.{Greater}
 use Rattle.std.specs.BTreeMap.{insert_entry, is_at}
-use Rattle.std.specs.Str.Parse.{digits_value}
 use Rattle.std.proofs.lemmas.Fmt.{decimal_is_IsNumeral}
 use Rattle.std.proofs.lemmas.Int.{ints}
 use Rattle.std.proofs.lemmas.List.{append-nil}
-use Rattle.std.proofs.lemmas.Bool.{cond-true, cond-false, and_parts, and_from, leb-true, le-leb, eqb-true, ne_eqb}
+use Rattle.std.proofs.lemmas.Bool.{cond-true, cond-false, and_parts, and_from, leb-true, eqb-true, ne_eqb}
 use Rattle.text_format.specs.declared.class.Class.{Class}
 use Rattle.payload_ops.specs.Numbers.{is_in_range}
 use Rattle.affine_maps.specs.Shape.{MapShape}
 use Rattle.affine_maps.specs.declared.map.Expr.{Expr}
 use Rattle.affine_maps.specs.Map.{IsMap}
 use Rattle.affine_text.specs.declared.reading.fault.MapError.{MapError}
-use Rattle.affine_text.specs.Grammar.{Factor, Name, Number, Negative, Factors, NoFactor, Times, Products, NoProduct, Plus, Minus, Sum, Starts, Items, MapTree, IsMapTree, factor_end, factors_end, FactorFits, FactorsFit, ProductsFit, SumFits, OtherSumsFit, SumsFit, dimension_of, names_in, deepest}
-use Rattle.affine_text.specs.Collected.{is_zero, constant_form, dimension_form, has_terms, terms_in_range, form_in_range, coefficient, with_coefficient, plus_term, plus_terms, plus_form, scaled, negative_form, times_form}
-use Rattle.affine_text.specs.Meaning.{and_then, in_range, product_of, sum_of, name_form, number_form, zero_form, one_form, factor_form, factors_form, products_form, sum_form, other_results, results_form, meaning}
+use Rattle.affine_text.specs.Grammar.{Factor, Name, Number, Negative, NoFactor, Times, Products, NoProduct, factor_end, factors_end, names_in}
+use Rattle.affine_text.specs.Collected.{is_zero, constant_form, dimension_form, terms_in_range, form_in_range, coefficient, with_coefficient, plus_term, plus_terms, plus_form, negative_form}
+use Rattle.affine_text.specs.Meaning.{and_then, in_range, product_of, sum_of, zero_form, one_form, factor_form, factors_form, products_form, sum_form, other_results, results_form, meaning}
 use Rattle.affine_text.specs.Text.{dimension_text, is_one, is_minus_one}
-use Rattle.affine_text.specs.Canonical.{Writer, behind, Product, negative, dimension, number, signed_number, times, first_term, multiple, joined, constant, later_terms, no_product, alone, sum, expression_by, expression, others, items, declared_from, dimensions, results, map_tree}
+use Rattle.affine_text.specs.Canonical.{Writer, behind, Product, negative, dimension, number, signed_number, times, first_term, multiple, joined, later_terms, no_product, alone, expression_by, expression, others, dimensions, results, map_tree}
 use Rattle.affine_text.proofs.Scaling.{zero_is, scaled_other, scaled_one, scaled_number, product_ok}
-use Rattle.affine_text.proofs.Fitting.{IsTerm, AreTerms, Rises, IsOver, results_over}
-use Rattle.affine_text.proofs.CanonicalNames.{AreNumbered, numbered, names_to, how_many, dimensions_new, dimensions_named}
+use Rattle.affine_text.proofs.Fitting.{AreTerms, Rises, IsOver, results_over}
+use Rattle.affine_text.proofs.CanonicalNames.{AreNumbered, numbered, names_to, how_many, dimensions_named}
 
 -- ---- forms
 

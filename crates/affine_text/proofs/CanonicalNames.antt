@@ -1,12 +1,12 @@
 -- The names d0, d1, .. of a canonical text: they differ, and each has its number.
-use Rattle.std.proofs.Common.{◌≡◌, ◌<◌, ◌≤◌, ◌^◌, ℕ, zero, suc, ◌+◌, Bool, true, false, cond, nat_eq, List, [], ◌∷◌, ◌++◌, length, decimal, Option, Some, None, refl, sym, ap, ◌∙◌, arith, length-append}
+use Rattle.std.proofs.Common.{◌≡◌, ◌<◌, ◌≤◌, ◌^◌, ℕ, zero, suc, ◌+◌, Bool, true, false, cond, nat_eq, List, [], ◌∷◌, ◌++◌, length, decimal, Some, None, refl, sym, ap, ◌∙◌, arith, length-append}
 use Rattle.std.specs.Prelude.{is_some}
 use Rattle.std.specs.Str.{bytes_eq}
 use Rattle.std.proofs.lemmas.Bool.{cond-true, cond-false, eqb-true, eqb-false}
 use Rattle.std.proofs.lemmas.Fmt.{decimal_injective}
 use Rattle.std.proofs.lemmas.Slice.Eq.{bytes_eq-Decides}
 use Rattle.text_format.specs.declared.class.Class.{Class}
-use Rattle.affine_text.specs.Grammar.{dimension_of, is_declared, Items, Declared, AreNew, OthersAreNew, with_names, with_others}
+use Rattle.affine_text.specs.Grammar.{dimension_of, AreNew, OthersAreNew, with_names, with_others}
 use Rattle.affine_text.specs.Text.{dimension_text}
 use Rattle.affine_text.specs.Canonical.{others, declared_from, dimensions}
 use Rattle.affine_text.proofs.Numbers.{declared_last}

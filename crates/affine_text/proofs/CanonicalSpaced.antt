@@ -1,5 +1,5 @@
 -- The pieces of a map's canonical text are well spaced, whatever comes behind them.
-use Rattle.std.proofs.Common.{◌≡◌, ◌<◌, ◌≤◌, ◌^◌, ℕ, zero, suc, ◌+◌, ◌==◌, Bool, true, false, cond, ◌&&◌, ℤ, pos, negsuc, List, [], ◌∷◌, ◌++◌, map, length, unsigned_abs, codes, decimal, refl, sym, ap, subst, ◌∙◌, arith, nat_le}
+use Rattle.std.proofs.Common.{◌≡◌, ◌<◌, ◌≤◌, ◌^◌, ℕ, zero, suc, ◌+◌, ◌==◌, Bool, true, false, cond, ℤ, pos, negsuc, List, [], ◌∷◌, ◌++◌, map, length, unsigned_abs, codes, decimal, refl, sym, subst, arith, nat_le}
 use Rattle.std.specs.List.{AllByRecursion}
 use Rattle.std.proofs.lemmas.List.{append-nil}
 use Rattle.std.proofs.lemmas.Bool.{and_parts, leb-true, ne_eqb}
@@ -8,17 +8,17 @@ use Rattle.text_format.specs.declared.front.Kind.TheVariants as kinds
 use Rattle.text_format.specs.declared.front.ByteClass.TheVariants as classes
 use Rattle.text_format.specs.declared.lexeme.Lexeme.TheVariants as lexemes
 use Rattle.text_format.specs.Bytes.{front, mark_front, is_digit}
-use Rattle.text_format.specs.Pieces.{Piece, Gap, Fixed, Leaf, bytes_of, Ends, IsSpaced}
+use Rattle.text_format.specs.Pieces.{Piece, Fixed, bytes_of, Ends, IsSpaced}
 use Rattle.text_format.proofs.Spacing.{IsApart, Opens, IsClosed, none_apart, none_opens, space_opens, fixed_opens, fixed_closed, fixed_word, leaf_name, leaf_closed, append_apart, dimension_name, decimal_name, decimal_some, decimal_in_digits, all_in, minus_ends, spaced_append, lexeme_closed}
 use Rattle.text_format.proofs.Spacing as spacing
-use Rattle.payload_ops.specs.Numbers.{is_in_range, is_coefficient}
+use Rattle.payload_ops.specs.Numbers.{is_in_range}
 use Rattle.affine_maps.specs.Shape.{MapShape}
 use Rattle.affine_maps.specs.declared.map.Expr.{Expr}
-use Rattle.affine_maps.specs.Map.{terms_fit, expr_fits, map_fits, IsMap}
+use Rattle.affine_maps.specs.Map.{IsMap}
 use Rattle.affine_text.specs.Grammar.{Factor, Products}
-use Rattle.affine_text.proofs.Fitting.{IsTerm, AreTerms, IsOver, results_over}
+use Rattle.affine_text.proofs.Fitting.{AreTerms, IsOver, results_over}
 use Rattle.affine_text.specs.Text.{is_one, is_minus_one}
-use Rattle.affine_text.specs.Canonical.{Writer, Product, space, operator, negative, dimension, number, signed_number, times, first_term, multiple, joined, constant, later_terms, no_product, alone, expression_by, expression, others, items, declared, declared_from, dimensions, results, map_front, map_pieces}
+use Rattle.affine_text.specs.Canonical.{Writer, Product, space, operator, negative, dimension, number, signed_number, times, first_term, multiple, joined, later_terms, no_product, alone, expression_by, expression, others, items, declared_from, dimensions, results, map_front, map_pieces}
 
 abbrev IsWell : {A : Type 0} → Writer A → Type 0
 IsWell w = IsApart w.pieces
@@ -141,7 +141,7 @@ front_well c m d h =
     let rs = items_well (map (expression c) m.results) (expressions_well c m.dims m.results d h) in
     fixed_word lexemes.AffineMap (fixed_opens lexemes.Less refl) (fixed_closed lexemes.Less refl (fixed_closed lexemes.OpenParenthesis refl
     (append_apart (dimensions c m.dims).pieces _ ds (fixed_opens lexemes.CloseParenthesis refl) (fixed_closed lexemes.CloseParenthesis refl (spacing.space (fixed_closed lexemes.Arrow refl (spacing.space (fixed_closed lexemes.OpenParenthesis refl
-    (append_apart (results c m.results).pieces _ rs (fixed_opens lexemes.CloseParenthesis refl) (fixed_closed lexemes.CloseParenthesis refl none_apart)))))))))) 
+    (append_apart (results c m.results).pieces _ rs (fixed_opens lexemes.CloseParenthesis refl) (fixed_closed lexemes.CloseParenthesis refl none_apart))))))))))
 
 -- the pieces are well spaced, whatever comes behind them
 pub map_spaced : (c : Class) (m : MapShape) → IsMap m → m.dims ≤ 2 ^ 32 → (rest : List ℕ) → IsSpaced (map_pieces c m) rest

@@ -1,17 +1,15 @@
 -- The canonical tree is spelled by the tokens of its pieces.
-use Rattle.std.proofs.Common.{◌≡◌, ℕ, zero, suc, ◌+◌, ◌==◌, Bool, true, false, cond, ℤ, pos, negsuc, List, [], ◌∷◌, ◌++◌, map, length, unsigned_abs, codes, decimal, refl, sym, ap, ◌∙◌, append_assoc, arith, length-append}
-use Rattle.std.proofs.lemmas.List.{append-nil}
+use Rattle.std.proofs.Common.{◌≡◌, ℕ, zero, suc, ◌+◌, ◌==◌, Bool, true, false, cond, ℤ, pos, negsuc, List, [], ◌∷◌, ◌++◌, map, length, unsigned_abs, codes, refl, sym, ap, ◌∙◌, append_assoc, arith, length-append}
 use Rattle.text_format.specs.declared.class.Class.{Class}
-use Rattle.text_format.specs.declared.front.Kind.TheVariants as kinds
 use Rattle.text_format.specs.declared.lexeme.Lexeme.TheVariants as lexemes
 use Rattle.text_format.specs.Lexemes.{lexeme_kind, lexeme_text}
 use Rattle.text_format.specs.Token.{TokenShape}
 use Rattle.text_format.specs.Pieces.{Piece, Gap, Fixed, Leaf, bytes_of, shapes_at}
 use Rattle.affine_maps.specs.Shape.{MapShape}
 use Rattle.affine_maps.specs.declared.map.Expr.{Expr}
-use Rattle.affine_text.specs.Grammar.{Factor, Factors, Products, Sum, Items, Declared, MapTree, mark_at, word_at, factor_tokens, factors_tokens, products_tokens, sum_tokens, other_names_tokens, names_tokens, other_sums_tokens, sums_tokens, map_tokens}
+use Rattle.affine_text.specs.Grammar.{Factor, Products, mark_at, word_at, factor_tokens, factors_tokens, products_tokens, sum_tokens, other_names_tokens, names_tokens, other_sums_tokens, sums_tokens, map_tokens}
 use Rattle.affine_text.specs.Text.{dimension_text, is_one, is_minus_one}
-use Rattle.affine_text.specs.Canonical.{Writer, behind, Product, space, operator, negative, dimension, number, signed_number, times, first_term, multiple, joined, constant, later_terms, no_product, alone, sum, expression_by, expression, others, items, declared, declared_from, dimensions, results, map_front, map_pieces, map_tree}
+use Rattle.affine_text.specs.Canonical.{Writer, behind, Product, space, operator, negative, dimension, number, signed_number, times, first_term, multiple, joined, later_terms, no_product, alone, sum, expression_by, expression, others, declared, declared_from, dimensions, results, map_front, map_pieces, map_tree}
 
 -- ---- the tokens of pieces, one list behind the other
 

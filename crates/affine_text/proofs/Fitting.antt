@@ -1,9 +1,8 @@
 -- What a map's rule says of each expression and each term.
-use Rattle.std.proofs.Common.{◌≡◌, ◌<◌, ◌≤◌, ℕ, zero, suc, ◌+◌, Bool, true, false, ◌&&◌, ℤ, List, [], ◌∷◌, unsigned_abs, nat_le, nat_lt, refl, sym, ap, ◌∙◌, arith}
+use Rattle.std.proofs.Common.{◌≡◌, ◌<◌, ◌≤◌, ℕ, ◌+◌, true, ◌&&◌, ℤ, List, [], ◌∷◌, unsigned_abs, nat_le, nat_lt}
 use Rattle.std.specs.List.{AllByRecursion, list_all}
 use Rattle.std.proofs.lemmas.Bool.{and_parts, leb-true, ltb-true}
 use Rattle.payload_ops.specs.Numbers.{is_in_range, is_coefficient}
-use Rattle.affine_maps.specs.Shape.{MapShape}
 use Rattle.affine_maps.specs.declared.map.Expr.{Expr}
 use Rattle.affine_maps.specs.Map.{terms_fit, expr_fits}
 

@@ -9,11 +9,11 @@ use Rattle.affine_text.specs.declared.reading.place.Place.{Place}
 use Rattle.affine_text.specs.declared.reading.place.Place.TheVariants as places
 use Rattle.affine_text.specs.Grammar.{MapTree, map_tokens, IsMapTree}
 use Rattle.affine_text.specs.Meaning.{meaning}
-use Rattle.affine_text.specs.Faults.{Stream, Begins, Spells, AllHave, IsFormAt, Stops, FaultWithin, FaultBehind, IsFirstFault, IsMapText, IsAnswer}
-use Rattle.affine_text.specs.Reading.{Spot, Gathered, spot_behind, gathered_with, first_spot, nothing_gathered}
+use Rattle.affine_text.specs.Faults.{Stream, Begins, AllHave, Stops, FaultWithin, FaultBehind, IsFirstFault, IsMapText, IsAnswer}
+use Rattle.affine_text.specs.Reading.{Spot, spot_behind, first_spot}
 use Rattle.affine_text.proofs.GoesOn.{RestAt, rest_tokens, RestFits, rest_means}
-use Rattle.affine_text.proofs.Forward.{Onward, forward, then_same, IsWholeAt, begins}
-use Rattle.affine_text.proofs.OneTree.{one_tree}
+use Rattle.affine_text.proofs.Forward.{Onward, forward, IsWholeAt, begins}
+use Rattle.affine_text.proofs.OneTree.{heads, tails, one_tree}
 use Rattle.affine_text.proofs.HasRead.{Onto, first_read}
 
 -- ---- from one spot
@@ -67,12 +67,6 @@ data Fronts (us vs ws xs : List TokenShape) : Type 0 where
 one_more : (u w : TokenShape) (us vs ws xs : List TokenShape) → u ≡ w → Fronts us vs ws xs → Fronts (u ∷ us) vs (w ∷ ws) xs
 one_more u w us vs ws xs e (Longer zs f g) = Longer zs (ap (λ (t : TokenShape). t ∷ ws) (sym e) ∙ ap (λ (ts : List TokenShape). u ∷ ts) f) g
 one_more u w us vs ws xs e (Shorter z zs f g) = Shorter z zs (ap (λ (t : TokenShape). t ∷ us) e ∙ ap (λ (ts : List TokenShape). w ∷ ts) f) g
-
-heads : (u w : TokenShape) (us ws : List TokenShape) → u ∷ us ≡ w ∷ ws → u ≡ w
-heads u w us ws e = cc
-
-tails : (u w : TokenShape) (us ws : List TokenShape) → u ∷ us ≡ w ∷ ws → us ≡ ws
-tails u w us ws e = cc
 
 fronts_of : (us vs ws xs : List TokenShape) → us ++ vs ≡ ws ++ xs → Fronts us vs ws xs
 fronts_of [] vs ws xs e = Longer ws refl e

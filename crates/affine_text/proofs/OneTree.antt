@@ -1,14 +1,14 @@
 -- Tokens spell one tree at most.
-use Rattle.std.proofs.Common.{◌≡◌, ℕ, zero, suc, ◌+◌, List, [], ◌∷◌, codes, Option, Some, None, refl, sym, ap, subst, ◌∙◌, arith}
+use Rattle.std.proofs.Common.{◌≡◌, ℕ, List, [], ◌∷◌, codes, Option, Some, None, refl, sym, ap, subst, ◌∙◌, arith}
 use Rattle.text_format.specs.declared.front.Kind.{Kind}
 use Rattle.text_format.specs.declared.front.Kind.TheVariants as kinds
 use Rattle.text_format.specs.Token.{TokenShape}
-use Rattle.affine_text.specs.Grammar.{Factor, Name, Number, Negative, Group, Factors, NoFactor, Times, Products, NoProduct, Plus, Minus, Sum, Starts, Items, Empty, From, Declared, Symbols, MapTree, word_at, number_at, mark_at, factor_tokens, factors_tokens, products_tokens, sum_tokens, names_tokens, other_names_tokens, sums_tokens, other_sums_tokens, symbols_tokens, results_tokens, map_tokens}
+use Rattle.affine_text.specs.Grammar.{Factor, Name, Number, Negative, Group, Factors, NoFactor, Times, Products, NoProduct, Plus, Minus, Sum, Starts, Items, Empty, From, Declared, Symbols, MapTree, word_at, number_at, mark_at, factor_tokens, factors_tokens, products_tokens, sum_tokens, names_tokens, other_names_tokens, sums_tokens, other_sums_tokens, symbols_tokens, map_tokens}
 
-heads : (t u : TokenShape) (ts us : List TokenShape) → t ∷ ts ≡ u ∷ us → t ≡ u
+pub heads : (t u : TokenShape) (ts us : List TokenShape) → t ∷ ts ≡ u ∷ us → t ≡ u
 heads t u ts us e = cc
 
-tails : (t u : TokenShape) (ts us : List TokenShape) → t ∷ ts ≡ u ∷ us → ts ≡ us
+pub tails : (t u : TokenShape) (ts us : List TokenShape) → t ∷ ts ≡ u ∷ us → ts ≡ us
 tails t u ts us e = cc
 
 -- a token by a number: a word, a number, or else its first byte
@@ -99,6 +99,7 @@ starts_same f g fs gs ps qs q r s = ap (λ x. Starts x fs ps) q ∙ ap (λ x. St
 
 mutual
   unfolding factor_tokens code code_by
+
   one_factor : (f g : Factor) (ts us : List TokenShape) → factor_tokens f ts ≡ factor_tokens g us → (f ≡ g) × (ts ≡ us)
   one_factor (Name at text) (Name to other) ts us e =
       let t = word_at at text in

@@ -1,5 +1,5 @@
 -- The canonical text of a map reads back to it.
-use Rattle.std.proofs.Common.{◌≡◌, ◌≤◌, ◌^◌, ℕ, ◌+◌, Bool, List, [], ◌∷◌, ◌++◌, length, codes, refl, sym, ap, subst, ◌∙◌, arith, length-append}
+use Rattle.std.proofs.Common.{◌≡◌, ◌≤◌, ◌^◌, ℕ, ◌+◌, Bool, List, [], ◌∷◌, ◌++◌, length, codes, Result, Ok, Err, ◌⊎◌, inl, inr, sym, ap, subst, ◌∙◌, arith, length-append}
 use Rattle.text_format.specs.declared.class.Class.{Class}
 use Rattle.text_format.specs.declared.class.Class.TheVariants.{Value}
 use Rattle.text_format.specs.declared.lexeme.Lexeme.TheVariants as lexemes
@@ -9,13 +9,16 @@ use Rattle.affine_maps.specs.Shape.{MapShape}
 use Rattle.affine_maps.specs.Map.{IsMap}
 use Rattle.affine_text.specs.Grammar.{mark_at}
 use Rattle.affine_text.specs.Text.{text_of_map}
-use Rattle.affine_text.specs.Faults.{stream_of, IsMapText}
+use Rattle.affine_text.specs.Faults.{stream_of, IsMapText, IsAnswer}
 use Rattle.affine_text.specs.Canonical.{map_front, map_pieces, map_tree}
 use Rattle.affine_text.proofs.CanonicalBytes.{bytes_append, map_bytes}
 use Rattle.affine_text.proofs.CanonicalSpaced.{map_spaced}
 use Rattle.affine_text.proofs.CanonicalTokens.{map_front_spells, map_spelled}
 use Rattle.affine_text.proofs.CanonicalMeaning.{map_means}
 use Rattle.affine_text.proofs.CanonicalFits.{map_fits}
+use Rattle.affine_text.specs.declared.reading.fault.MapError.{MapError}
+use Rattle.affine_text.specs.declared.reading.fault.MapError.TheVariants.{Memory}
+use Rattle.affine_text.proofs.OneReading.{two_answers}
 use Rattle.affine_text.proofs.Streams.{stream_of_pieces}
 
 -- whatever stands behind it
@@ -40,3 +43,14 @@ pieces_read c m rest symbols i s =
 
 pub reads_back : (m : MapShape) (rest : List ℕ) (symbols : Bool) → IsMap m → m.dims ≤ 2 ^ 32 → IsMapText symbols (stream_of (text_of_map m ++ rest)) m (length (text_of_map m))
 reads_back m rest symbols i s = subst (λ (text : List ℕ). IsMapText symbols (stream_of (text ++ rest)) m (length text)) (map_bytes Value m) (pieces_read Value m rest symbols i s)
+
+only_one : (r : Result (MapShape × ℕ) MapError) (x : MapShape × ℕ) → (r ≡ Ok x) ⊎ ((r ≡ Err Memory) ⊎ (Ok x ≡ Err Memory)) → (r ≡ Ok x) ⊎ (r ≡ Err Memory)
+only_one r x (inl e) = inl e
+only_one r x (inr (inl e)) = inr e
+only_one r x (inr (inr e)) = absurd (cc e)
+
+-- what reading it answers
+pub read_answers : (m : MapShape) (rest : List ℕ) (symbols : Bool) (r : Result (MapShape × ℕ) MapError) → IsMap m → m.dims ≤ 2 ^ 32 → IsAnswer symbols (stream_of (text_of_map m ++ rest)) r
+    → (r ≡ Ok (m, length (text_of_map m))) ⊎ (r ≡ Err Memory)
+read_answers m rest symbols r i s a =
+    only_one r (m, length (text_of_map m)) (two_answers symbols (stream_of (text_of_map m ++ rest)) r (Ok (m, length (text_of_map m))) a (reads_back m rest symbols i s))

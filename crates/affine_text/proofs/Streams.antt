@@ -1,5 +1,5 @@
 -- The tokens of a text that begins with well-spaced pieces.
-use Rattle.std.proofs.Common.{◌≡◌, ◌≤◌, ◌-◌, ℕ, zero, suc, ◌+◌, true, List, [], ◌∷◌, ◌++◌, length, take, drop, refl, sym, ap, ◌∙◌, append_assoc, arith, length-append}
+use Rattle.std.proofs.Common.{◌≡◌, ◌≤◌, ◌-◌, ℕ, zero, suc, ◌+◌, true, List, [], ◌∷◌, ◌++◌, length, drop, refl, ap, ◌∙◌, append_assoc, arith, length-append}
 use Rattle.std.specs.List.{AllByRecursion}
 use Rattle.std.proofs.lemmas.Bool.{cond-true}
 use Rattle.std.proofs.lemmas.List.{drop_at, take_at}
@@ -48,25 +48,25 @@ token kind (b ∷ bs) rest (suc n) at ts e le h =
     let read = ap (λ (f : Front). (stream_by at all (λ j. stream_from n (at + j) (drop j all)) f).tokens) e in (
       more.0,
       read ∙ ap (λ (x : List ℕ). shape x ∷ (stream_from n (at + k) (drop k all)).tokens) (take_at (b ∷ bs) rest k refl)
-      ∙ ap (λ (x : List ℕ). shape (b ∷ bs) ∷ (stream_from n (at + k) x).tokens) (drop_at (b ∷ bs) rest k refl)
-      ∙ ap (λ (us : List TokenShape). shape (b ∷ bs) ∷ us) more.1,
+          ∙ ap (λ (x : List ℕ). shape (b ∷ bs) ∷ (stream_from n (at + k) x).tokens) (drop_at (b ∷ bs) rest k refl)
+          ∙ ap (λ (us : List TokenShape). shape (b ∷ bs) ∷ us) more.1,
     )
 
-longer : (p : Piece) (text : List ℕ) (ps : List Piece) (rest : List ℕ) (n at : ℕ) (ts : List TokenShape) → BeginsWith (stream_from n at (text ++ (bytes_of ps ++ rest))) ts → BeginsWith (stream_from n at ((text ++ bytes_of ps) ++ rest)) ts
-longer p text ps rest n at ts h = (h.0, ap (λ (bs : List ℕ). (stream_from n at bs).tokens) (append_assoc text (bytes_of ps) rest) ∙ h.1)
+longer : (text : List ℕ) (ps : List Piece) (rest : List ℕ) (n at : ℕ) (ts : List TokenShape) → BeginsWith (stream_from n at (text ++ (bytes_of ps ++ rest))) ts → BeginsWith (stream_from n at ((text ++ bytes_of ps) ++ rest)) ts
+longer text ps rest n at ts h = (h.0, ap (λ (bs : List ℕ). (stream_from n at bs).tokens) (append_assoc text (bytes_of ps) rest) ∙ h.1)
 
 pieces : (ps : List Piece) (rest : List ℕ) (n at : ℕ) → IsSpaced ps rest → length (bytes_of ps) ≤ n → BeginsWith (stream_from n at (bytes_of ps ++ rest)) (shapes_at at ps)
 pieces [] rest n at s h = ((stream_from n at rest).tokens, refl)
 pieces (Gap g ∷ ps) rest n at s h =
     let le : length g ≤ n = omega (arith, length-append g (bytes_of ps), h) in
     let more = pieces ps rest (n - length g) (at + length g) s.1 (omega (arith, length-append g (bytes_of ps), h)) in
-    longer (Gap g) g ps rest n at (shapes_at at (Gap g ∷ ps)) (more.0, ap (λ (x : Stream). x.tokens) (gap g (bytes_of ps ++ rest) n at s.0 le) ∙ more.1)
+    longer g ps rest n at (shapes_at at (Gap g ∷ ps)) (more.0, ap (λ (x : Stream). x.tokens) (gap g (bytes_of ps ++ rest) n at s.0 le) ∙ more.1)
 pieces (Fixed l ∷ ps) rest n at s h =
-    longer (Fixed l) (lexeme_text l) ps rest n at (shapes_at at (Fixed l ∷ ps))
+    longer (lexeme_text l) ps rest n at (shapes_at at (Fixed l ∷ ps))
     (token (lexeme_kind l) (lexeme_text l) (bytes_of ps ++ rest) n at (shapes_at (at + length (lexeme_text l)) ps) s.0 (omega (arith, length-append (lexeme_text l) (bytes_of ps), h))
-      (λ m le. pieces ps rest m (at + length (lexeme_text l)) s.1 (omega (arith, length-append (lexeme_text l) (bytes_of ps), h, le))))
+    (λ m le. pieces ps rest m (at + length (lexeme_text l)) s.1 (omega (arith, length-append (lexeme_text l) (bytes_of ps), h, le))))
 pieces (Leaf c k t ∷ ps) rest n at s h =
-    longer (Leaf c k t) t ps rest n at (shapes_at at (Leaf c k t ∷ ps))
+    longer t ps rest n at (shapes_at at (Leaf c k t ∷ ps))
     (token k t (bytes_of ps ++ rest) n at (shapes_at (at + length t) ps) s.0 (omega (arith, length-append t (bytes_of ps), h)) (λ m le. pieces ps rest m (at + length t) s.1 (omega (arith, length-append t (bytes_of ps), h, le))))
 
 -- a text that begins with well-spaced pieces has their tokens first

@@ -1,5 +1,4 @@
-use Rattle.std.proofs.Common.{rules, ◌≡◌, ℕ, ◌++◌, ◌≤◌, ◌^◌, sym, subst, List, length, arith}
-use Rattle.affine_maps.specs.Map.{IsMap}
+use Rattle.std.proofs.Common.{rules, ◌≡◌, ℕ, ◌++◌, ◌≤◌, ◌^◌, sym, subst, List, length}
 use Rattle.affine_text.specs.Faults.{stream_of, IsMapText}
 use Rattle.affine_text.specs.Text.{text_of_map}
 use Rattle.affine_text.proofs.ReadsBack.{reads_back}
