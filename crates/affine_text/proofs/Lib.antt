@@ -1,13 +1,17 @@
 mod Adding
 mod Backward
 mod Digits
+mod Feeds
+mod Fits
 mod Forward
 mod GoesOn
 mod HasRead
 mod Levels
 mod Multiplying
 mod Numbers
+mod Parsing
 mod Probe
 mod Scaling
 mod Signs
+mod Streams
 mod Written
