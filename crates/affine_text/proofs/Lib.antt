@@ -6,8 +6,10 @@ pub mod CanonicalMeaning
 mod CanonicalNames
 pub mod CanonicalSpaced
 pub mod CanonicalTokens
-mod Fitting
 mod Digits
+mod Feeds
+mod Fits
+mod Fitting
 mod Forward
 mod GoesOn
 mod HasRead
@@ -15,10 +17,12 @@ mod Levels
 mod Multiplying
 mod Numbers
 pub mod OneReading
-pub mod OneTree
+mod OneTree
+mod Parsing
+pub mod PieceTokens
 mod Probe
 pub mod ReadsBack
 mod Scaling
 mod Signs
-pub mod Streams
+mod Streams
 mod Written

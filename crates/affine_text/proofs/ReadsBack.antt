@@ -19,7 +19,7 @@ use Rattle.affine_text.proofs.CanonicalFits.{map_fits}
 use Rattle.affine_text.specs.declared.reading.fault.MapError.{MapError}
 use Rattle.affine_text.specs.declared.reading.fault.MapError.TheVariants.{Memory}
 use Rattle.affine_text.proofs.OneReading.{two_answers}
-use Rattle.affine_text.proofs.Streams.{stream_of_pieces}
+use Rattle.affine_text.proofs.PieceTokens.{stream_of_pieces}
 
 -- whatever stands behind it
 pieces_read : (c : Class) (m : MapShape) (rest : List ℕ) (symbols : Bool) → IsMap m → m.dims ≤ 2 ^ 32 → IsMapText symbols (stream_of (bytes_of (map_pieces c m) ++ rest)) m (length (bytes_of (map_pieces c m)))

@@ -1,74 +1,83 @@
--- The tokens of a text that begins with well-spaced pieces.
-use Rattle.std.proofs.Common.{◌≡◌, ◌≤◌, ◌-◌, ℕ, zero, suc, ◌+◌, true, List, [], ◌∷◌, ◌++◌, length, drop, refl, ap, ◌∙◌, append_assoc, arith, length-append}
-use Rattle.std.specs.List.{AllByRecursion}
-use Rattle.std.proofs.lemmas.Bool.{cond-true}
-use Rattle.std.proofs.lemmas.List.{drop_at, take_at}
+-- The tokens of a text, one after the other, as a loop reads them.
+use Rattle.std.proofs.Common.{◌≡◌, ℕ, zero, suc, ◌+◌, ◌<◌, ◌≤◌, List, [], ◌∷◌, ◌++◌, length, drop, take, Some, None, refl, sym, ap, ◌∙◌, append_assoc, arith}
+use Rattle.std.proofs.lemmas.List.{append-nil, length-drop}
 use Rattle.text_format.specs.declared.front.Kind.{Kind}
 use Rattle.text_format.specs.declared.front.Front.{Front}
 use Rattle.text_format.specs.declared.front.Front.TheVariants as fronts
-use Rattle.text_format.specs.Bytes.{is_blank, front}
-use Rattle.text_format.specs.Lexemes.{lexeme_kind, lexeme_text}
+use Rattle.text_format.specs.Bytes.{front, first_front, Within}
 use Rattle.text_format.specs.Token.{TokenShape}
-use Rattle.text_format.specs.Pieces.{Piece, Gap, Fixed, Leaf, bytes_of, shapes_at, Ends, IsSpaced}
-use Rattle.affine_text.specs.Faults.{Stream, stream_by, stream_from}
+use Rattle.text_format.proofs.Runs.{front_within}
+use Rattle.affine_text.specs.Faults.{Stream, ends_at, before_stream, stream_by, stream_from}
 
--- the stream's tokens begin with these
-abbrev pub BeginsWith : Stream → List TokenShape → Type 0
-BeginsWith s ts = (after : List TokenShape) × (s.tokens ≡ ts ++ after)
+-- the stream behind these tokens
+abbrev pub behind_all : List TokenShape → Stream → Stream
+behind_all ts s = record { tokens = ts ++ s.tokens; end = s.end }
 
-blank_front : (b : ℕ) (rest : List ℕ) → is_blank b ≡ true → front b rest ≡ fronts.Skip 1
-unfolding front
-blank_front b rest e = cond-true (is_blank b) _ _ e
+same_step : (at : ℕ) (bytes : List ℕ) (go to : ℕ → Stream) (f : Front) (size : ℕ) → Within f size → ((k : ℕ) → 0 < k → k ≤ size → go k ≡ to k) → stream_by at bytes go f ≡ stream_by at bytes to f
+same_step at bytes go to (fronts.Skip k) size w h = h k w.0 w.1
+same_step at bytes go to (fronts.Token kind k) size w h = ap (before_stream (record { kind = kind; start = at; text = take k bytes })) (h k w.0 w.1)
+same_step at bytes go to (fronts.Byte k) size w h = refl
+same_step at bytes go to fronts.Unclosed size w h = refl
 
--- a gap is skipped
-gap : (g rest : List ℕ) (n at : ℕ) → AllByRecursion (λ b. is_blank b ≡ true) g → length g ≤ n → stream_from n at (g ++ rest) ≡ stream_from (n - length g) (at + length g) rest
+-- enough is enough
+stream_any : (n m at : ℕ) (bytes : List ℕ) → length bytes ≤ n → length bytes ≤ m → stream_from n at bytes ≡ stream_from m at bytes
 unfolding stream_from
-gap [] rest n at a h =
-    let p : n ≡ n - 0 = omega arith in
-    let q : at ≡ at + 0 = omega arith in
-    ap (λ k. stream_from k at rest) p ∙ ap (λ k. stream_from (n - 0) k rest) q
-gap (b ∷ g) rest zero at a h = absurd (omega (arith, h))
-gap (b ∷ g) rest (suc n) at a h =
-    let p : (at + 1) + length g ≡ at + suc (length g) = omega arith in
-    let q : n - length g ≡ suc n - suc (length g) = omega arith in
-    ap (stream_by at (b ∷ (g ++ rest)) (λ k. stream_from n (at + k) (drop k (b ∷ (g ++ rest))))) (blank_front b (g ++ rest) a.0)
-    ∙ gap g rest n (at + 1) a.1 (omega (arith, h)) ∙ ap (λ k. stream_from (n - length g) k rest) p ∙ ap (λ k. stream_from k (at + suc (length g)) rest) q
+stream_any zero zero at bytes p q = refl
+stream_any zero (suc m) at [] p q = refl
+stream_any zero (suc m) at (b ∷ bs) p q = absurd (omega arith)
+stream_any (suc n) zero at [] p q = refl
+stream_any (suc n) zero at (b ∷ bs) p q = absurd (omega arith)
+stream_any (suc n) (suc m) at [] p q = refl
+stream_any (suc n) (suc m) at (b ∷ bs) p q =
+    same_step at (b ∷ bs) (λ k. stream_from n (at + k) (drop k (b ∷ bs))) (λ k. stream_from m (at + k) (drop k (b ∷ bs))) (front b bs) (suc (length bs)) (front_within b bs)
+    (λ k lo hi. let l = length-drop k (b ∷ bs) in stream_any n m (at + k) (drop k (b ∷ bs)) (omega (arith, l)) (omega (arith, l)))
 
--- a token is taken
-token : (kind : Kind) (t rest : List ℕ) (n at : ℕ) (ts : List TokenShape) → Ends kind t rest → length t ≤ n → ((m : ℕ) → n - length t ≤ m → BeginsWith (stream_from m (at + length t) rest) ts)
-    → BeginsWith (stream_from n at (t ++ rest)) (record { kind = kind; start = at; text = t } ∷ ts)
+front_step : (b : ℕ) (bs : List ℕ) (n at : ℕ) (f : Front) → f ≡ front b bs → stream_from (suc n) at (b ∷ bs) ≡ stream_by at (b ∷ bs) (λ k. stream_from n (at + k) (drop k (b ∷ bs))) f
 unfolding stream_from
-token kind [] rest n at ts e le h = absurd e
-token kind (b ∷ bs) rest zero at ts e le h = absurd (omega (arith, le))
-token kind (b ∷ bs) rest (suc n) at ts e le h =
-    let k = length (b ∷ bs) in
-    let all = b ∷ (bs ++ rest) in
-    let more = h n (omega arith) in
-    let shape : List ℕ → TokenShape = λ x. record { kind = kind; start = at; text = x } in
-    let read = ap (λ (f : Front). (stream_by at all (λ j. stream_from n (at + j) (drop j all)) f).tokens) e in (
-      more.0,
-      read ∙ ap (λ (x : List ℕ). shape x ∷ (stream_from n (at + k) (drop k all)).tokens) (take_at (b ∷ bs) rest k refl)
-          ∙ ap (λ (x : List ℕ). shape (b ∷ bs) ∷ (stream_from n (at + k) x).tokens) (drop_at (b ∷ bs) rest k refl)
-          ∙ ap (λ (us : List TokenShape). shape (b ∷ bs) ∷ us) more.1,
-    )
+front_step b bs n at f e = ap (stream_by at (b ∷ bs) (λ k. stream_from n (at + k) (drop k (b ∷ bs)))) (sym e)
 
-longer : (text : List ℕ) (ps : List Piece) (rest : List ℕ) (n at : ℕ) (ts : List TokenShape) → BeginsWith (stream_from n at (text ++ (bytes_of ps ++ rest))) ts → BeginsWith (stream_from n at ((text ++ bytes_of ps) ++ rest)) ts
-longer text ps rest n at ts h = (h.0, ap (λ (bs : List ℕ). (stream_from n at bs).tokens) (append_assoc text (bytes_of ps) rest) ∙ h.1)
+goes_to : (b : ℕ) (bs : List ℕ) (at k : ℕ) → 0 < k → stream_from (length bs) (at + k) (drop k (b ∷ bs)) ≡ stream_from (length (drop k (b ∷ bs))) (at + k) (drop k (b ∷ bs))
+goes_to b bs at k pos = let l = length-drop k (b ∷ bs) in stream_any (length bs) (length (drop k (b ∷ bs))) (at + k) (drop k (b ∷ bs)) (omega (arith, l)) (omega arith)
 
-pieces : (ps : List Piece) (rest : List ℕ) (n at : ℕ) → IsSpaced ps rest → length (bytes_of ps) ≤ n → BeginsWith (stream_from n at (bytes_of ps ++ rest)) (shapes_at at ps)
-pieces [] rest n at s h = ((stream_from n at rest).tokens, refl)
-pieces (Gap g ∷ ps) rest n at s h =
-    let le : length g ≤ n = omega (arith, length-append g (bytes_of ps), h) in
-    let more = pieces ps rest (n - length g) (at + length g) s.1 (omega (arith, length-append g (bytes_of ps), h)) in
-    longer g ps rest n at (shapes_at at (Gap g ∷ ps)) (more.0, ap (λ (x : Stream). x.tokens) (gap g (bytes_of ps ++ rest) n at s.0 le) ∙ more.1)
-pieces (Fixed l ∷ ps) rest n at s h =
-    longer (lexeme_text l) ps rest n at (shapes_at at (Fixed l ∷ ps))
-    (token (lexeme_kind l) (lexeme_text l) (bytes_of ps ++ rest) n at (shapes_at (at + length (lexeme_text l)) ps) s.0 (omega (arith, length-append (lexeme_text l) (bytes_of ps), h))
-    (λ m le. pieces ps rest m (at + length (lexeme_text l)) s.1 (omega (arith, length-append (lexeme_text l) (bytes_of ps), h, le))))
-pieces (Leaf c k t ∷ ps) rest n at s h =
-    longer t ps rest n at (shapes_at at (Leaf c k t ∷ ps))
-    (token k t (bytes_of ps ++ rest) n at (shapes_at (at + length t) ps) s.0 (omega (arith, length-append t (bytes_of ps), h)) (λ m le. pieces ps rest m (at + length t) s.1 (omega (arith, length-append t (bytes_of ps), h, le))))
+-- what is left, where so much was read
+abbrev pub left_at : ℕ → List ℕ → Stream
+left_at at rest = stream_from (length rest) at rest
 
--- a text that begins with well-spaced pieces has their tokens first
-pub stream_of_pieces : (ps : List Piece) (rest : List ℕ) → IsSpaced ps rest → BeginsWith (stream_from (length (bytes_of ps ++ rest)) 0 (bytes_of ps ++ rest)) (shapes_at 0 ps)
-stream_of_pieces ps rest s = pieces ps rest (length (bytes_of ps ++ rest)) 0 s (omega (arith, length-append (bytes_of ps) rest))
+one_more : (ts : List TokenShape) (t : TokenShape) (s : Stream) → behind_all ts (before_stream t s) ≡ behind_all (ts ++ t ∷ []) s
+one_more ts t s = ap (λ (us : List TokenShape). record { tokens = us; end = s.end }) (sym (append_assoc ts (t ∷ []) s.tokens))
+
+pub skips : (rest : List ℕ) (at k : ℕ) (ts : List TokenShape) (all : Stream) → Some (fronts.Skip k) ≡ first_front rest → 0 < k → all ≡ behind_all ts (left_at at rest) → all ≡ behind_all ts (left_at (at + k) (drop k rest))
+skips [] at k ts all e pos so_far = absurd (cc e)
+skips (b ∷ bs) at k ts all e pos so_far = so_far ∙ ap (behind_all ts) (front_step b bs (length bs) at (fronts.Skip k) (cc e) ∙ goes_to b bs at k pos)
+
+-- the next token
+pub takes : (rest : List ℕ) (at : ℕ) (kind : Kind) (k : ℕ) (ts : List TokenShape) (all : Stream) → Some (fronts.Token kind k) ≡ first_front rest → 0 < k → all ≡ behind_all ts (left_at at rest)
+    → all ≡ behind_all (ts ++ record { kind = kind; start = at; text = take k rest } ∷ []) (left_at (at + k) (drop k rest))
+takes [] at kind k ts all e pos so_far = absurd (cc e)
+takes (b ∷ bs) at kind k ts all e pos so_far =
+    let t : TokenShape = record { kind = kind; start = at; text = take k (b ∷ bs) } in
+    so_far ∙ ap (behind_all ts) (front_step b bs (length bs) at (fronts.Token kind k) (cc e) ∙ ap (before_stream t) (goes_to b bs at k pos))
+    ∙ one_more ts t (left_at (at + k) (drop k (b ∷ bs)))
+
+-- no token comes next
+abbrev pub Ended : List TokenShape → ℕ → Stream → Type 0
+Ended ts end all = (all.tokens ≡ ts ++ []) × (all.end ≡ end)
+
+ended_from : (ts : List TokenShape) (end : ℕ) (all : Stream) → all ≡ behind_all ts (ends_at end) → Ended ts end all
+ended_from ts end all e = (ap (λ (s : Stream). s.tokens) e, ap (λ (s : Stream). s.end) e)
+
+pub meets_byte : (rest : List ℕ) (at k : ℕ) (ts : List TokenShape) (all : Stream) → Some (fronts.Byte k) ≡ first_front rest → all ≡ behind_all ts (left_at at rest) → Ended ts (at + k) all
+meets_byte [] at k ts all e so_far = absurd (cc e)
+meets_byte (b ∷ bs) at k ts all e so_far = ended_from ts (at + k) all (so_far ∙ ap (behind_all ts) (front_step b bs (length bs) at (fronts.Byte k) (cc e)))
+
+pub meets_unclosed : (rest : List ℕ) (at : ℕ) (ts : List TokenShape) (all : Stream) → Some fronts.Unclosed ≡ first_front rest → all ≡ behind_all ts (left_at at rest) → Ended ts at all
+meets_unclosed [] at ts all e so_far = absurd (cc e)
+meets_unclosed (b ∷ bs) at ts all e so_far = ended_from ts at all (so_far ∙ ap (behind_all ts) (front_step b bs (length bs) at fronts.Unclosed (cc e)))
+
+nothing_left : (at : ℕ) → left_at at [] ≡ ends_at at
+unfolding stream_from
+nothing_left at = refl
+
+pub ends : (rest : List ℕ) (at : ℕ) (ts : List TokenShape) (all : Stream) → None ≡ first_front rest → all ≡ behind_all ts (left_at at rest) → Ended ts at all
+ends [] at ts all e so_far = ended_from ts at all (so_far ∙ ap (behind_all ts) (nothing_left at))
+ends (b ∷ bs) at ts all e so_far = absurd (cc e)

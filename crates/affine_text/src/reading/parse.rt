@@ -1,15 +1,21 @@
 //! The map at the front of a text.
 
+ghost use Rattle.std.specs.Prelude.{◌≤◌, length, true};
+ghost use Rattle.affine_text.specs.Faults.{stream_of, IsAnswer};
+
+use affine_maps::AffineMap;
 use crate::reading::fault::MapError;
 use crate::reading::reader::Reader;
-use affine_maps::AffineMap;
 use std::alloc::Global;
 use text_format::{Front, Token, first_front};
 
 /// Reads the `affine_map<..>` at the front of a text, and answers the map and the length of its text
 /// in bytes. What stands behind it isn't looked at. Symbols are read as dimensions after the others.
 /// Else the first fault (Affine manual, "Affine Maps").
-pub fn parse_map(alloc: Global, text: &[u8]) -> Result<(AffineMap, u32), MapError> {
+pub fn parse_map(alloc: Global, text: &[u8]) -> Result<(AffineMap, u32), MapError>
+    requires { length text.now ≤ 4194304 }
+    ensures { IsAnswer true (stream_of text.now) result }
+{
     let mut reader = Reader::new(alloc, true);
     let mut at = 0usize;
     let mut rest = text;
@@ -29,10 +35,7 @@ pub fn parse_map(alloc: Global, text: &[u8]) -> Result<(AffineMap, u32), MapErro
                 at += n;
                 rest = after;
                 if reader.is_whole() {
-                    return match reader.into_map() {
-                        Some(map) => Ok((map, at as u32)),
-                        None => Err(MapError::Memory),
-                    };
+                    return Ok((reader.into_map().unwrap(), at as u32));
                 }
             }
             Front::Byte(n) => return Err(MapError::BadText((at + n) as u32)),
