@@ -9,7 +9,7 @@ use Rattle.affine_maps.specs.Map.{IsMap}
 use Rattle.affine_text.specs.Grammar.{Factor, Products, IsMapTree, FactorFits, FactorsFit, ProductsFit, SumFits, OtherSumsFit, SumsFit, deepest}
 use Rattle.affine_text.specs.Text.{is_one, is_minus_one}
 use Rattle.affine_text.specs.Canonical.{Writer, behind, Product, negative, dimension, number, signed_number, times, first_term, multiple, joined, later_terms, no_product, alone, expression_by, expression, others, dimensions, results, map_tree}
-use Rattle.affine_text.proofs.Fitting.{AreTerms, IsOver, results_over}
+use Rattle.affine_text.proofs.MapRule.{AreTerms, IsOver, results_over}
 use Rattle.affine_text.proofs.CanonicalNames.{AreNumbered, numbered, names_to, dimensions_new, dimensions_named}
 
 -- wherever it begins, the tree's names are these

@@ -22,7 +22,7 @@ use Rattle.affine_text.specs.Meaning.{and_then, in_range, product_of, sum_of, ze
 use Rattle.affine_text.specs.Text.{dimension_text, is_one, is_minus_one}
 use Rattle.affine_text.specs.Canonical.{Writer, behind, Product, negative, dimension, number, signed_number, times, first_term, multiple, joined, later_terms, no_product, alone, expression_by, expression, others, dimensions, results, map_tree}
 use Rattle.affine_text.proofs.Scaling.{zero_is, scaled_other, scaled_one, scaled_number, product_ok}
-use Rattle.affine_text.proofs.Fitting.{AreTerms, Rises, IsOver, results_over}
+use Rattle.affine_text.proofs.MapRule.{AreTerms, Rises, IsOver, results_over}
 use Rattle.affine_text.proofs.CanonicalNames.{AreNumbered, numbered, names_to, how_many, dimensions_named}
 
 -- ---- forms

@@ -16,7 +16,7 @@ use Rattle.affine_maps.specs.Shape.{MapShape}
 use Rattle.affine_maps.specs.declared.map.Expr.{Expr}
 use Rattle.affine_maps.specs.Map.{IsMap}
 use Rattle.affine_text.specs.Grammar.{Factor, Products}
-use Rattle.affine_text.proofs.Fitting.{AreTerms, IsOver, results_over}
+use Rattle.affine_text.proofs.MapRule.{AreTerms, IsOver, results_over}
 use Rattle.affine_text.specs.Text.{is_one, is_minus_one}
 use Rattle.affine_text.specs.Canonical.{Writer, Product, space, operator, negative, dimension, number, signed_number, times, first_term, multiple, joined, later_terms, no_product, alone, expression_by, expression, others, items, declared_from, dimensions, results, map_front, map_pieces}
 

@@ -9,11 +9,11 @@ pub mod CanonicalTokens
 mod Digits
 mod Feeds
 mod Fits
-mod Fitting
 mod Forward
 mod GoesOn
 mod HasRead
 mod Levels
+mod MapRule
 mod Multiplying
 mod Numbers
 pub mod OneReading
