@@ -168,7 +168,6 @@ joined_ok names b f fs ps e first others rest o =
 
 mutual
   unfolding factor_form FactorFits
-
   factor_ok : (f : Factor) (names : List (List ℕ)) (room : ℕ) → FactorFits f names room → AllOk (IsForm (length names)) (factor_form f names)
   factor_ok (Name at text) names room h = name_ok names text h
   factor_ok (Number at digits) names room h = form_of (length names) (number_form at digits) (ranged (length names) at _ tt)
@@ -207,7 +206,6 @@ terms_ok n low (t ∷ ts) o r =
   where
     lower : (a b : ℕ) → a ≤ b → nat_le a b ≡ true
     lower a b h = grind (arith, nat_tests)
-
     below : (a b : ℕ) → a < b → nat_lt a b ≡ true
     below a b h = grind (arith, nat_tests)
 

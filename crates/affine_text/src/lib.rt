@@ -2,14 +2,15 @@
 //!
 //! - `map_text` is a map's canonical text.
 //! - `parse_map` reads the map at the front of a text, or answers the first fault.
+//! - `Reader` reads a map that is handed to it one token at a time.
 //! - `canonical_map_reads_back`, `canonical_pieces` and `one_reading` have no code: their contracts
 //!   are laws.
-//! - `Reader` reads a map that is handed to it one token at a time.
 //!
-//! `specs/Text.antt` says what the canonical text is, `specs/Canonical.antt` has it in pieces with the tree
-//! that they spell, `specs/Grammar.antt` says which texts are a map's, `specs/Meaning.antt` which map each means or what fault its expressions have, `specs/Faults.antt`
-//! what the first fault of a text is, and `specs/Reading.antt` how a reader goes through the tokens.
-//! `specs/Collected.antt` and `specs/Multiples.antt` have the words of the forms inside.
+//! `specs/Text.antt` says what the canonical text is, `specs/Canonical.antt` has its pieces and the
+//! tree that they spell, `specs/Grammar.antt` says which texts are a map's, `specs/Meaning.antt` which
+//! map each means or what fault its expressions have, `specs/Faults.antt` what the first fault of a
+//! text is, and `specs/Reading.antt` how a reader goes through the tokens. `specs/Collected.antt` and
+//! `specs/Multiples.antt` have the words of the forms inside.
 #![tactic(auto)]
 
 mod laws;

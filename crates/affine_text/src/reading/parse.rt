@@ -3,9 +3,9 @@
 ghost use Rattle.std.specs.Prelude.{◌≤◌, length, true};
 ghost use Rattle.affine_text.specs.Faults.{stream_of, IsAnswer};
 
+use affine_maps::AffineMap;
 use crate::reading::fault::MapError;
 use crate::reading::reader::Reader;
-use affine_maps::AffineMap;
 use std::alloc::Global;
 use text_format::{Front, Token, first_front};
 

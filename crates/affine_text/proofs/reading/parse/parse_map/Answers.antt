@@ -32,7 +32,7 @@ unwrap-requires c =
     let fed = ap (read_with c.loop-front.reader) (sym same) ∙ c.in-Ok.ensures in
     let whole = sym c.is_whole.ensures ∙ c.if-is_whole.true in
     c.into_map.ensures.valid.1 (read_is_map c.args.text.now c.feed.new.self (c.loop-front.at + c.in-Token.n)
-    (stands_whole c.args.text.now c.loop-front.reader c.feed.new.self c.loop-front.at c.loop-front.rest.now c.in-Token.kind c.in-Token.n e w.0 w.1 c.loop-front.invariant fed whole))
+      (stands_whole c.args.text.now c.loop-front.reader c.feed.new.self c.loop-front.at c.loop-front.rest.now c.in-Token.kind c.in-Token.n e w.0 w.1 c.loop-front.invariant fed whole))
 
 pub returns-then-is_whole : goal.returns-then-is_whole
 returns-then-is_whole c =
