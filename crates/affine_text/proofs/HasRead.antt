@@ -182,7 +182,7 @@ fault_within symbols ts s next v t fault h e g =
     )
 
 -- with a token behind which the reader doesn't move no text goes on
-none_with : (symbols : Bool) (ts : List TokenShape) (s : Spot) (v : Gathered) (t : TokenShape) → HasRead symbols ts s v → spot_behind symbols s t ≡ None → Begins symbols (ts ++ t ∷ []) → ⊥
+pub none_with : (symbols : Bool) (ts : List TokenShape) (s : Spot) (v : Gathered) (t : TokenShape) → HasRead symbols ts s v → spot_behind symbols s t ≡ None → Begins symbols (ts ++ t ∷ []) → ⊥
 none_with symbols ts s v t h e b =
     let g = h.on b.0 (t ∷ b.1) b.2 (b.3 ∙ longer ts t b.1) in
     let o = forward symbols s g.0 t b.1 g.1 g.2 in

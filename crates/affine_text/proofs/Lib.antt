@@ -7,6 +7,7 @@ mod Forward
 mod GoesOn
 mod HasRead
 mod Levels
+mod Lists
 mod Multiplying
 mod Numbers
 mod Parsing

@@ -14,5 +14,5 @@ mod reading;
 mod text;
 
 pub use reading::fault::MapError;
-pub use reading::parse::parse_map;
+pub use reading::parse::{map_of, parse_map};
 pub use text::map_text;
