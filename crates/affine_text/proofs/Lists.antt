@@ -1,11 +1,10 @@
 -- Reading a list of tokens as one map.
-use Rattle.std.proofs.Common.{◌≡◌, ℕ, zero, suc, ◌<◌, ◌≤◌, Bool, true, false, cond, List, [], ◌∷◌, ◌++◌, length, drop, get_or, Option, Some, None, Result, Ok, Err, ◌⊎◌, refl, sym, ap, subst, ◌∙◌, inl, inr, append_assoc, arith}
+use Rattle.std.proofs.Common.{◌≡◌, ℕ, suc, ◌<◌, ◌≤◌, Bool, true, false, cond, List, [], ◌∷◌, ◌++◌, length, drop, get_or, Option, Some, None, Result, Ok, Err, ◌⊎◌, refl, sym, ap, subst, ◌∙◌, inl, inr, append_assoc}
 use Rattle.std.proofs.Math.ListN.{drop_of_length-le}
 use Rattle.std.proofs.Math.Seq.{drop-cons}
 use Rattle.std.proofs.lemmas.List.{append-nil}
 use Rattle.text_format.specs.Token.{TokenShape}
 use Rattle.affine_maps.specs.Map.{IsMap}
-use Rattle.affine_maps.specs.Shape.{MapShape}
 use Rattle.affine_text.specs.declared.reading.fault.MapError.{MapError}
 use Rattle.affine_text.specs.declared.reading.fault.MapError.TheVariants.{BadText, Form, Range, Memory}
 use Rattle.affine_text.specs.declared.reading.place.Place.{Place}
@@ -19,7 +18,7 @@ use Rattle.affine_text.specs.OfTokens.{last_start, read_all, whole_map, map_of_t
 use Rattle.affine_text.proofs.Feeds.{Read, read_on, fault_at}
 use Rattle.affine_text.proofs.Fits.{meaning_is_map}
 use Rattle.affine_text.proofs.Forward.{spot}
-use Rattle.affine_text.proofs.HasRead.{HasRead, IsWithin, reads_on, fault_within, none_with, fault_at_end, whole_text, first_read}
+use Rattle.affine_text.proofs.HasRead.{HasRead, reads_on, fault_within, none_with, fault_at_end, whole_text, first_read}
 use Rattle.affine_text.proofs.Parsing.{within_from, whole_read, whole_from}
 
 longer : (ts : List TokenShape) (t : TokenShape) (after : List TokenShape) → (ts ++ t ∷ []) ++ after ≡ ts ++ t ∷ after

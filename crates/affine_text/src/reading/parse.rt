@@ -6,9 +6,9 @@ ghost use Rattle.affine_text.specs.Meaning.{meaning};
 ghost use Rattle.affine_text.specs.Faults.{stream_of, IsAnswer};
 ghost use Rattle.affine_text.specs.OfTokens.{map_of_tokens, IsReading, Gives};
 
-use affine_maps::AffineMap;
 use crate::reading::fault::MapError;
 use crate::reading::reader::Reader;
+use affine_maps::AffineMap;
 use std::alloc::Global;
 use text_format::{Front, Token, first_front};
 

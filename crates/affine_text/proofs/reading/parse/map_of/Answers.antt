@@ -1,4 +1,4 @@
-use Rattle.std.proofs.Common.{◌≡◌, Ok, sym, ap, ◌∙◌}
+use Rattle.std.proofs.Common.{Ok, sym, ap, ◌∙◌}
 use Rattle.affine_text.specs.Feeding.{first_reader, map_read}
 use Rattle.affine_text.specs.OfTokens.{read_all, last_start}
 use Rattle.affine_text.proofs.Lists.{none_left, last_left, err_given, whole_is_map, whole_given, end_given}
