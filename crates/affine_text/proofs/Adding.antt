@@ -1,5 +1,5 @@
 -- Sums with their terms collected, one term at a time.
-use Rattle.std.proofs.Common.{◌≡◌, ◌≢◌, ℕ, ◌+◌, ◌^◌, ◌<◌, ◌≤◌, zero, suc, Bool, true, false, not, cond, ◌&&◌, List, [], ◌∷◌, length, drop, get_or, map, ℤ, pos, negsuc, ◌+ℤ◌, ◌*ℤ◌, unsigned_abs, nat_eq, nat_le, Option, Some, None, unwrap_or, Ok, Err, Result, refl, sym, ap, subst, ◌∙◌, arith}
+use Rattle.std.proofs.Common.{◌≡◌, ℕ, ◌+◌, ◌^◌, ◌<◌, ◌≤◌, suc, Bool, true, false, cond, ◌&&◌, List, [], ◌∷◌, length, drop, get_or, ℤ, pos, ◌+ℤ◌, ◌*ℤ◌, unsigned_abs, nat_le, Some, unwrap_or, Ok, refl, sym, ap, subst, ◌∙◌, arith}
 use Rattle.std.specs.Ordering.{nat_cmp, is_eq, match_ordering}
 use Rattle.std.specs.Cmp.{nat_cmp_is}
 use Rattle.std.specs.declared.cmp.Ordering.{Ordering}
@@ -11,12 +11,11 @@ use Rattle.std.specs.BTreeMap.{insert_entry, is_at}
 use Rattle.std.proofs.Math.Seq.{drop-cons}
 use Rattle.std.proofs.Math.ListN.{drop_of_length-le}
 use Rattle.std.proofs.lemmas.Map.Lookups.{exact_unsigned}
-use Rattle.std.proofs.lemmas.Bool.{cond-true, cond-false, and_parts, and_from, le-leb, leb-false, eqb-false, leb-true, lt-leb, eqb-true}
+use Rattle.std.proofs.lemmas.Bool.{cond-true, cond-false, and_parts, and_from, le-leb, leb-false, eqb-false, leb-true, eqb-true}
 use Rattle.payload_ops.specs.Numbers.{is_in_range, is_coefficient}
 use Rattle.affine_maps.specs.declared.map.Expr.{Expr}
-use Rattle.affine_text.specs.Collected.{is_zero, coefficient, with_coefficient, plus_term, plus_terms, terms_in_range, form_in_range, plus_form}
+use Rattle.affine_text.specs.Collected.{is_zero, coefficient, with_coefficient, plus_term, plus_terms, terms_in_range, form_in_range}
 use Rattle.affine_text.specs.Multiples.{ascends, are_coefficients, is_sum, is_collected, times_terms, with_terms, AddsTerm, AddsTerms}
-use Rattle.payload_ops.specs.declared.memory.Memory.{Memory}
 
 abbrev Terms : Type 0
 Terms = List (ℕ × ℤ)

@@ -6,11 +6,11 @@ use Rattle.affine_text.specs.declared.reading.place.Place.{Place}
 use Rattle.affine_text.specs.declared.reading.place.Place.TheVariants as places
 use Rattle.affine_text.specs.declared.reading.place.Sign.{Sign}
 use Rattle.affine_text.specs.declared.reading.place.Sign.TheVariants as signs
-use Rattle.affine_text.specs.Grammar.{Factor, Name, Number, Negative, Group, Factors, NoFactor, Times, Products, NoProduct, Plus, Minus, Sum, Starts, Items, Empty, From, Declared, Symbols, mark_at, word_at, number_at, factor_tokens, FactorFits, SumFits, is_declared}
-use Rattle.affine_text.specs.Reading.{Spot, sign_of, spot_by, spot_behind, declares, opens_by, closes_by, parts_by, goes}
+use Rattle.affine_text.specs.Grammar.{Name, Number, Negative, Group, NoFactor, Times, NoProduct, Plus, Minus, Starts, Empty, From, mark_at, word_at, number_at, factor_tokens, FactorFits, is_declared}
+use Rattle.affine_text.specs.Reading.{Spot, sign_of, spot_by, spot_behind, opens_by, closes_by, parts_by}
 use Rattle.affine_text.proofs.GoesOn.{closing_tokens, ClosingFits, RestAt, rest_tokens, RestFits}
 use Rattle.affine_text.proofs.Forward.{spot}
-use Rattle.affine_text.proofs.Signs.{same_bytes, mark_text, IsMark, mark_token, word_token, number_token}
+use Rattle.affine_text.proofs.Signs.{same_bytes, mark_token, word_token, number_token}
 
 -- these tokens go on from the spot
 abbrev pub GoesOn : Bool → Spot → List TokenShape → Type 0

@@ -1,5 +1,5 @@
 -- Numbers that digits write.
-use Rattle.std.proofs.Common.{◌≡◌, ◌<◌, ◌≤◌, ◌+◌, ◌*◌, ◌^◌, ℕ, zero, suc, Bool, true, false, nat_le, List, [], ◌∷◌, length, get_or, drop, cond, ◌&&◌, pos, to_z, w64, Option, Some, None, Result, Ok, Err, refl, sym, ap, subst, ◌∙◌, arith}
+use Rattle.std.proofs.Common.{◌≡◌, ◌<◌, ◌≤◌, ◌+◌, ◌*◌, ◌^◌, ℕ, suc, Bool, true, false, nat_le, List, [], ◌∷◌, length, get_or, drop, cond, ◌&&◌, pos, to_z, w64, Some, None, Ok, Err, refl, sym, ap, subst, ◌∙◌, arith}
 use Rattle.std.specs.Char.{digit_value}
 use Rattle.std.specs.Str.Parse.{digits_value, digits_value_after}
 use Rattle.std.proofs.Math.Seq.{drop-cons}
@@ -7,7 +7,6 @@ use Rattle.std.proofs.lemmas.Bool.{cond-true, cond-false}
 use Rattle.std.proofs.lemmas.Bool.Decides.{nat_tests}
 use Rattle.std.proofs.lemmas.Int.{to_z_pos}
 use Rattle.affine_maps.specs.declared.map.Expr.{Expr}
-use Rattle.affine_text.specs.declared.reading.fault.MapError.{MapError}
 use Rattle.affine_text.specs.declared.reading.fault.MapError.TheVariants.{Range}
 use Rattle.affine_text.specs.Collected.{constant_form}
 use Rattle.affine_text.specs.Meaning.{in_range, number_form}

@@ -1,5 +1,5 @@
 -- What a reader has read behind its next token, and which fault it finds there.
-use Rattle.std.proofs.Common.{◌≡◌, ℕ, zero, suc, Bool, true, false, cond, List, [], ◌∷◌, ◌++◌, Option, Some, None, Result, Ok, Err, ◌⊎◌, refl, sym, ap, subst, ◌∙◌, inl, inr}
+use Rattle.std.proofs.Common.{◌≡◌, ℕ, Bool, true, false, cond, List, [], ◌∷◌, ◌++◌, Option, Some, None, Result, Ok, Err, ◌⊎◌, refl, sym, ap, subst, ◌∙◌, inl, inr}
 use Rattle.text_format.specs.Token.{TokenShape}
 use Rattle.affine_text.specs.declared.reading.fault.MapError.{MapError}
 use Rattle.affine_text.specs.declared.reading.fault.MapError.TheVariants.{BadText, Form}
@@ -7,13 +7,11 @@ use Rattle.affine_text.specs.declared.reading.place.Place.{Place}
 use Rattle.affine_text.specs.declared.reading.place.Place.TheVariants as places
 use Rattle.affine_text.specs.declared.reading.place.Sign.{Sign}
 use Rattle.affine_text.specs.declared.reading.place.Sign.TheVariants as signs
-use Rattle.affine_text.specs.Grammar.{mark_at}
 use Rattle.affine_text.specs.Faults.{is_division, FaultWithin, FaultBehind}
-use Rattle.affine_text.specs.Meaning.{and_then}
-use Rattle.affine_text.specs.Reading.{Spot, Gathered, spot_behind, spot_by, gathered_with, sign_of, step_of, keyword_step, less_step, greater_step, open_step, arrow_step, first_dimension_step, next_name_step, dimension_behind_step, dimensions_end_step, first_symbol_step, symbol_behind_step, operand_step, first_result_step, operator_step, first_spot, nothing_gathered}
-use Rattle.affine_text.specs.Feeding.{ReaderShape, refusal, taken_by, read_with, first_reader}
+use Rattle.affine_text.specs.Reading.{Spot, Gathered, spot_behind, spot_by, gathered_with, sign_of, step_of, keyword_step, less_step, greater_step, open_step, arrow_step, first_dimension_step, next_name_step, dimension_behind_step, dimensions_end_step, first_symbol_step, symbol_behind_step, operand_step, first_result_step, operator_step}
+use Rattle.affine_text.specs.Feeding.{ReaderShape, refusal, taken_by, read_with}
 use Rattle.affine_text.proofs.Forward.{spot}
-use Rattle.affine_text.proofs.Signs.{mark_text, IsMark, mark_token}
+use Rattle.affine_text.proofs.Signs.{IsMark, mark_token}
 use Rattle.affine_text.proofs.HasRead.{HasRead, IsWithin, IsBehind, reads_on, fault_within, bad_token, bad_operator}
 
 -- ---- the token is taken

@@ -1,5 +1,5 @@
 -- What the text of a map means, where it has no fault, is a map.
-use Rattle.std.proofs.Common.{◌≡◌, ℕ, zero, suc, ◌+◌, ◌*◌, ◌^◌, ◌<◌, ◌≤◌, Bool, true, false, cond, ◌&&◌, not, ℤ, pos, negsuc, ◌*ℤ◌, ◌+ℤ◌, unsigned_abs, nat_eq, nat_lt, nat_le, List, [], ◌∷◌, ◌++◌, length, map, unwrap_or, Option, Some, None, Result, Ok, Err, refl, sym, ap, subst, ◌∙◌, arith}
+use Rattle.std.proofs.Common.{◌≡◌, ℕ, zero, suc, ◌+◌, ◌<◌, ◌≤◌, Bool, true, false, cond, ◌&&◌, ℤ, pos, negsuc, ◌*ℤ◌, ◌+ℤ◌, unsigned_abs, nat_lt, nat_le, List, [], ◌∷◌, ◌++◌, length, map, unwrap_or, Option, Some, None, Result, Ok, Err, refl, sym, subst, ◌∙◌, arith}
 use Rattle.std.specs.Prelude.{is_some}
 use Rattle.std.specs.Str.{bytes_eq}
 use Rattle.std.specs.List.{list_all}
@@ -11,11 +11,11 @@ use Rattle.std.specs.BTreeMap.{insert_entry, is_at}
 use Rattle.std.proofs.lemmas.Cmp.{ranked}
 use Rattle.std.proofs.Math.Nat.{mul-pos}
 use Rattle.std.proofs.lemmas.Int.{unsigned_abs-mul}
-use Rattle.std.proofs.lemmas.Bool.{and_parts, and_from, eqb-true, lt-leb}
+use Rattle.std.proofs.lemmas.Bool.{and_parts, and_from}
 use Rattle.std.proofs.lemmas.Bool.Decides.{nat_tests}
 use Rattle.std.proofs.lemmas.List.Folds.{list_all-append}
 use Rattle.payload_ops.specs.Numbers.{is_in_range, is_coefficient}
-use Rattle.affine_maps.specs.Map.{terms_fit, expr_fits, map_fits, IsMap}
+use Rattle.affine_maps.specs.Map.{terms_fit, expr_fits, IsMap}
 use Rattle.affine_maps.specs.Shape.{MapShape}
 use Rattle.affine_maps.specs.declared.map.Expr.{Expr}
 use Rattle.affine_text.specs.declared.reading.fault.MapError.{MapError}
@@ -168,6 +168,7 @@ joined_ok names b f fs ps e first others rest o =
 
 mutual
   unfolding factor_form FactorFits
+
   factor_ok : (f : Factor) (names : List (List ℕ)) (room : ℕ) → FactorFits f names room → AllOk (IsForm (length names)) (factor_form f names)
   factor_ok (Name at text) names room h = name_ok names text h
   factor_ok (Number at digits) names room h = form_of (length names) (number_form at digits) (ranged (length names) at _ tt)
@@ -206,6 +207,7 @@ terms_ok n low (t ∷ ts) o r =
   where
     lower : (a b : ℕ) → a ≤ b → nat_le a b ≡ true
     lower a b h = grind (arith, nat_tests)
+
     below : (a b : ℕ) → a < b → nat_lt a b ≡ true
     below a b h = grind (arith, nat_tests)
 

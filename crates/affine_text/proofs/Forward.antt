@@ -1,23 +1,21 @@
 -- The first token of what goes on from a spot moves the reader to a spot from which the rest goes on.
-use Rattle.std.proofs.Common.{◌≡◌, ℕ, zero, suc, Bool, true, false, not, List, [], ◌∷◌, ◌++◌, codes, length, Option, Some, None, Result, Ok, Err, ◌⊎◌, refl, sym, ap, subst, ◌∙◌, inl, inr, cond, ℤ, pos, negsuc, ◌*ℤ◌, map, arith}
-use Rattle.std.proofs.lemmas.Int.{ints}
+use Rattle.std.proofs.Common.{◌≡◌, ℕ, zero, suc, Bool, true, false, not, List, [], ◌∷◌, ◌++◌, codes, Option, Some, None, Result, Ok, Err, ◌⊎◌, refl, sym, ap, subst, ◌∙◌, inl, inr, negsuc}
 use Rattle.std.proofs.lemmas.Bool.{cond-true, cond-false}
 use Rattle.text_format.specs.Token.{TokenShape}
 use Rattle.affine_maps.specs.Shape.{MapShape}
 use Rattle.affine_maps.specs.declared.map.Expr.{Expr}
 use Rattle.affine_text.specs.declared.reading.fault.MapError.{MapError}
-use Rattle.affine_text.specs.declared.reading.fault.MapError.TheVariants.{Memory}
 use Rattle.affine_text.specs.declared.reading.place.Place.{Place}
 use Rattle.affine_text.specs.declared.reading.place.Place.TheVariants as places
-use Rattle.affine_text.specs.Grammar.{Factor, Name, Number, Negative, Group, Factors, NoFactor, Times, Products, NoProduct, Plus, Minus, Sum, Starts, Items, Empty, From, Declared, Symbols, MapTree, mark_at, word_at, number_at, factor_tokens, factors_tokens, products_tokens, sum_tokens, names_tokens, other_names_tokens, other_sums_tokens, sums_tokens, symbols_tokens, results_tokens, factor_end, factors_end, FactorFits, FactorsFit, ProductsFit, SumFits, OtherSumsFit, SumsFit, AreNew, OthersAreNew, IsNew, SymbolsFit, with_others, with_names, with_symbols, is_declared}
+use Rattle.affine_text.specs.Grammar.{Factor, Name, Number, Negative, Group, Factors, NoFactor, Times, Products, NoProduct, Plus, Minus, Sum, Starts, Items, Empty, From, Declared, Symbols, mark_at, word_at, number_at, factor_tokens, factor_end, factors_end, FactorFits, is_declared}
 use Rattle.affine_text.specs.Collected.{negative_form}
-use Rattle.affine_text.specs.Meaning.{and_then, factor_form, factors_form, products_form, sum_form, other_results, results_form, sum_of, product_of, one_form, zero_form, negative_of, name_form, number_form}
+use Rattle.affine_text.specs.Meaning.{and_then, factor_form, factors_form, products_form, sum_form, other_results, sum_of, product_of, one_form, zero_form, negative_of, name_form, number_form}
 use Rattle.affine_text.specs.declared.reading.place.Sign.{Sign}
 use Rattle.affine_text.specs.declared.reading.place.Sign.TheVariants as signs
 use Rattle.affine_text.specs.declared.reading.level.Level.{Level}
-use Rattle.affine_text.specs.Reading.{Spot, Gathered, level_with, signed, with_factor, with_product, with_level, turned, unturned, mark_sign, spot_by, spot_behind, gathered_with, declares, at_place, sign_of, new_level, opens_by, next_product, level_from, opened, closed, ended, close_by, next_result, spot_with, operand_step, first_result_step, gathers_with}
+use Rattle.affine_text.specs.Reading.{Spot, Gathered, level_with, signed, with_factor, with_product, with_level, turned, mark_sign, spot_by, spot_behind, gathered_with, declares, sign_of, new_level, opens_by, next_product, level_from, closed, ended, spot_with, operand_step, first_result_step, gathers_with}
 use Rattle.affine_text.proofs.Scaling.{scaled_twice, scaled_one}
-use Rattle.affine_text.proofs.GoesOn.{Closing, closing_tokens, ClosingFits, closing_means, behind, Operand, Results, Arrowed, RestAt, rest_tokens, RestFits, rest_means, operand_means, first_means}
+use Rattle.affine_text.proofs.GoesOn.{Closing, closing_tokens, ClosingFits, closing_means, behind, Operand, Results, Arrowed, RestAt, rest_tokens, RestFits, rest_means}
 
 -- ---- what is made of a value that may be at fault
 

@@ -1,5 +1,5 @@
 -- What goes on from a spot: the rest of a map's tree, with its tokens and its meaning.
-use Rattle.std.proofs.Common.{◌≡◌, ℕ, zero, suc, Bool, true, false, List, [], ◌∷◌, ◌++◌, codes, length, Option, Some, None, Result, Ok, Err, ◌⊎◌, refl, sym, ap, subst, ◌∙◌, inl, inr}
+use Rattle.std.proofs.Common.{ℕ, zero, suc, Bool, List, [], ◌∷◌, ◌++◌, codes, length, Option, Result, Ok, Err, ◌⊎◌, inl, inr}
 use Rattle.text_format.specs.Token.{TokenShape}
 use Rattle.affine_maps.specs.Shape.{MapShape}
 use Rattle.affine_maps.specs.declared.map.Expr.{Expr}
@@ -7,10 +7,10 @@ use Rattle.affine_text.specs.declared.reading.fault.MapError.{MapError}
 use Rattle.affine_text.specs.declared.reading.fault.MapError.TheVariants.{Memory}
 use Rattle.affine_text.specs.declared.reading.place.Place.{Place}
 use Rattle.affine_text.specs.declared.reading.place.Place.TheVariants as places
-use Rattle.affine_text.specs.Grammar.{Factor, Name, Number, Negative, Group, Factors, NoFactor, Times, Products, NoProduct, Plus, Minus, Sum, Starts, Items, Empty, From, Declared, Symbols, MapTree, mark_at, word_at, number_at, factor_tokens, factors_tokens, products_tokens, sum_tokens, names_tokens, other_names_tokens, other_sums_tokens, sums_tokens, symbols_tokens, results_tokens, factor_end, factors_end, FactorFits, FactorsFit, ProductsFit, SumFits, OtherSumsFit, SumsFit, AreNew, OthersAreNew, IsNew, SymbolsFit, with_others, with_names, with_symbols}
-use Rattle.affine_text.specs.Meaning.{and_then, factor_form, factors_form, products_form, sum_form, other_results, results_form, sum_of}
+use Rattle.affine_text.specs.Grammar.{Factor, Factors, Products, Sum, Items, Declared, Symbols, mark_at, word_at, factor_tokens, factors_tokens, products_tokens, names_tokens, other_names_tokens, other_sums_tokens, symbols_tokens, factor_end, factors_end, FactorFits, FactorsFit, ProductsFit, OtherSumsFit, AreNew, OthersAreNew, IsNew, SymbolsFit, with_others, with_names, with_symbols}
+use Rattle.affine_text.specs.Meaning.{and_then, factor_form, factors_form, products_form, other_results, sum_of}
 use Rattle.affine_text.specs.declared.reading.level.Level.{Level}
-use Rattle.affine_text.specs.Reading.{Spot, Gathered, level_with}
+use Rattle.affine_text.specs.Reading.{Gathered, level_with}
 
 -- ---- what closes the open parentheses and the list of results
 

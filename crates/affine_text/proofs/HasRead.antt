@@ -1,20 +1,17 @@
 -- What a reader's spot and what it has gathered say of the tokens that it has read.
-use Rattle.std.proofs.Common.{◌≡◌, ℕ, ◌+◌, zero, suc, Bool, true, false, List, [], ◌∷◌, ◌++◌, codes, length, Option, Some, None, Result, Ok, Err, ◌⊎◌, refl, sym, ap, subst, ◌∙◌, inl, inr, append_assoc, arith}
+use Rattle.std.proofs.Common.{◌≡◌, ℕ, zero, Bool, true, false, List, [], ◌∷◌, ◌++◌, codes, length, Some, None, Result, Ok, Err, ◌⊎◌, refl, sym, ap, subst, ◌∙◌, inl, inr, append_assoc}
 use Rattle.std.proofs.lemmas.List.{append-nil}
 use Rattle.text_format.specs.Token.{TokenShape}
 use Rattle.affine_maps.specs.Shape.{MapShape}
-use Rattle.affine_maps.specs.declared.map.Expr.{Expr}
 use Rattle.affine_text.specs.declared.reading.fault.MapError.{MapError}
-use Rattle.affine_text.specs.declared.reading.fault.MapError.TheVariants.{BadText, Form, Range, Memory}
+use Rattle.affine_text.specs.declared.reading.fault.MapError.TheVariants.{BadText, Form, Range}
 use Rattle.affine_text.specs.declared.reading.place.Place.{Place}
 use Rattle.affine_text.specs.declared.reading.place.Place.TheVariants as places
-use Rattle.affine_text.specs.declared.reading.place.Sign.{Sign}
-use Rattle.affine_text.specs.declared.reading.place.Sign.TheVariants as signs
-use Rattle.affine_text.specs.Grammar.{Factors, Products, Sum, Starts, Items, Empty, From, Declared, Symbols, MapTree, IsMapTree, map_tokens, mark_at, word_at, names_tokens, symbols_tokens, names_in, SumsFit, sums_tokens, other_sums_tokens, sum_tokens, factor_end, factors_end, deepest, with_symbols, with_names, SumFits}
+use Rattle.affine_text.specs.Grammar.{Sum, Starts, Items, Empty, From, MapTree, IsMapTree, map_tokens, mark_at, word_at, names_tokens, symbols_tokens, names_in, SumsFit, sums_tokens, sum_tokens, factor_end, factors_end, deepest, with_symbols, with_names, SumFits}
 use Rattle.affine_text.specs.Meaning.{and_then, factor_form, factors_form, products_form, product_of, sum_of, sum_form, results_form, other_results, meaning, one_form, zero_form}
-use Rattle.affine_text.specs.Faults.{Begins, Spells, AllHave, is_division, TakesOperator, IsFormAt, Stops, FaultWithin, FaultBehind}
+use Rattle.affine_text.specs.Faults.{Begins, Spells, AllHave, is_division, TakesOperator, IsFormAt, FaultWithin, FaultBehind}
 use Rattle.affine_text.specs.Reading.{Spot, Gathered, spot_behind, spot_by, sign_of, mark_sign, gathered_with, first_spot, nothing_gathered}
-use Rattle.affine_text.proofs.GoesOn.{Operand, Results, RestAt, rest_tokens, RestFits, rest_means, closing_tokens, ClosingFits, closing_means, first_means, first_tokens, ResultsFit}
+use Rattle.affine_text.proofs.GoesOn.{Results, RestAt, rest_tokens, RestFits, rest_means, closing_tokens, ClosingFits, closing_means, first_means, first_tokens, ResultsFit}
 use Rattle.affine_text.proofs.Forward.{Onward, spot, forward, chain_four, then_same, IsWholeAt, begins}
 use Rattle.affine_text.proofs.Backward.{GoesOn, backward}
 use Rattle.affine_text.proofs.Probe.{probe, probe_fits, probe_fault, IsReadAt}
@@ -182,7 +179,7 @@ fault_within symbols ts s next v t fault h e g =
     )
 
 -- with a token behind which the reader doesn't move no text goes on
-none_with : (symbols : Bool) (ts : List TokenShape) (s : Spot) (v : Gathered) (t : TokenShape) → HasRead symbols ts s v → spot_behind symbols s t ≡ None → Begins symbols (ts ++ t ∷ []) → ⊥
+pub none_with : (symbols : Bool) (ts : List TokenShape) (s : Spot) (v : Gathered) (t : TokenShape) → HasRead symbols ts s v → spot_behind symbols s t ≡ None → Begins symbols (ts ++ t ∷ []) → ⊥
 none_with symbols ts s v t h e b =
     let g = h.on b.0 (t ∷ b.1) b.2 (b.3 ∙ longer ts t b.1) in
     let o = forward symbols s g.0 t b.1 g.1 g.2 in

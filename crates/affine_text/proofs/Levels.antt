@@ -1,7 +1,6 @@
 -- The sum of a level with its last product.
-use Rattle.std.proofs.Common.{◌≡◌, ℕ, Bool, true, false, cond, Result, Ok, Err, refl, sym, ap, ◌∙◌}
+use Rattle.std.proofs.Common.{◌≡◌, ℕ, Bool, true, false, cond, Ok, Err, sym, ap, ◌∙◌}
 use Rattle.affine_maps.specs.declared.map.Expr.{Expr}
-use Rattle.affine_text.specs.declared.reading.fault.MapError.{MapError}
 use Rattle.affine_text.specs.declared.reading.fault.MapError.TheVariants.{Range}
 use Rattle.affine_text.specs.Collected.{form_in_range, plus_form}
 use Rattle.affine_text.specs.Meaning.{sum_of, in_range}

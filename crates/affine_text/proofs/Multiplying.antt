@@ -1,17 +1,17 @@
 -- What the code's numbers say of multiples.
-use Rattle.std.proofs.Common.{◌≡◌, ℕ, ◌+◌, ◌*◌, ◌^◌, ◌<◌, ◌≤◌, zero, suc, max, Bool, true, false, not, cond, ◌&&◌, ◌==◌, List, [], ◌∷◌, length, ℤ, pos, negsuc, ◌+ℤ◌, ◌*ℤ◌, unsigned_abs, nat_eq, nat_le, FitsSigned, w64, to_z, of_z, Ok, Err, refl, sym, ap, subst, ◌∙◌, arith, lit<, lit≤}
+use Rattle.std.proofs.Common.{◌≡◌, ℕ, ◌*◌, ◌^◌, ◌<◌, ◌≤◌, suc, max, Bool, true, false, not, cond, ◌&&◌, ◌==◌, List, [], ◌∷◌, length, ℤ, pos, negsuc, ◌+ℤ◌, ◌*ℤ◌, unsigned_abs, nat_le, FitsSigned, w64, to_z, of_z, Ok, Err, refl, sym, ap, subst, ◌∙◌, arith, lit<}
 use Rattle.std.proofs.lemmas.Int.{ints, unsigned_abs-mul, to_z-of_z, fits_signed_mul, fits_signed_from_abs}
-use Rattle.std.proofs.lemmas.Bool.{cond-true, cond-false, leb-true, leb-false, le-leb, lt-leb, and_parts, and_from, ne_eqb, eqb-true}
+use Rattle.std.proofs.lemmas.Bool.{leb-true, le-leb, lt-leb, and_parts, and_from, ne_eqb, eqb-true}
 use Rattle.std.proofs.Math.Nat.{mul-le-mul_left}
 use Rattle.payload_ops.specs.Numbers.{is_in_range, is_coefficient}
 use Rattle.affine_maps.specs.declared.map.Expr.{Expr}
 use Rattle.affine_text.specs.declared.reading.multiple.Multiple.{Multiple}
-use Rattle.affine_text.specs.declared.reading.fault.MapError.TheVariants.{Form, Range}
-use Rattle.affine_text.specs.Collected.{is_zero, constant_form, dimension_form, are_some, has_terms, terms_in_range, form_in_range, scaled, negative_form, times_form, plus_form, plus_terms}
-use Rattle.affine_text.specs.Meaning.{product_of, one_form}
+use Rattle.affine_text.specs.declared.reading.fault.MapError.TheVariants.{Range}
+use Rattle.affine_text.specs.Collected.{is_zero, constant_form, are_some, has_terms, terms_in_range, form_in_range, scaled, negative_form, times_form, plus_form, plus_terms}
+use Rattle.affine_text.specs.Meaning.{product_of}
 use Rattle.affine_text.specs.Multiples.{greatest_from, greatest_of, value_of, IsMultiple, multiple_of, ascends, are_coefficients, is_sum, is_collected, times_terms, with_terms}
 use Rattle.affine_text.proofs.Adding.{Left, sum_in_range}
-use Rattle.affine_text.proofs.Scaling.{scaled_zero, scaled_other, terms_range, scaled_number, scaled_one, scaled_twice, terms_of_scaled, range_of_scaled, times_of_scaled, no_product, product_ok, product_far, kept}
+use Rattle.affine_text.proofs.Scaling.{scaled_zero, scaled_other, terms_range, scaled_number, scaled_twice, terms_of_scaled, range_of_scaled, times_of_scaled, product_ok, product_far, kept}
 
 pub product_value : (a b : ℤ) → FitsSigned w64 a → FitsSigned w64 b → unsigned_abs a ≤ 2 ^ 31 → unsigned_abs b ≤ 2 ^ 31 → to_z w64 (of_z w64 (to_z w64 (of_z w64 a) *ℤ to_z w64 (of_z w64 b))) ≡ a *ℤ b
 product_value a b f g h k =

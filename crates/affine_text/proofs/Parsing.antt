@@ -1,5 +1,5 @@
 -- Reading the map at the front of a text.
-use Rattle.std.proofs.Common.{◌≡◌, ℕ, zero, suc, ◌+◌, ◌<◌, ◌≤◌, Bool, true, false, List, [], ◌∷◌, ◌++◌, length, drop, take, Option, Some, None, Result, Ok, Err, ◌⊎◌, refl, sym, ap, subst, ◌∙◌, inl, inr, append_assoc, arith}
+use Rattle.std.proofs.Common.{◌≡◌, ℕ, ◌+◌, ◌<◌, ◌≤◌, Bool, true, false, List, [], ◌∷◌, ◌++◌, length, drop, take, Option, Some, None, Ok, Err, refl, sym, ap, subst, ◌∙◌, inl, inr, append_assoc, arith}
 use Rattle.std.specs.Option.{IfSome}
 use Rattle.std.proofs.lemmas.List.{length-drop, length-take}
 use Rattle.text_format.specs.declared.front.Kind.{Kind}
@@ -50,7 +50,7 @@ stands_behind text r at rest k e lo hi s =
 abbrev token_at : Kind → ℕ → ℕ → List ℕ → TokenShape
 token_at kind at k rest = record { kind = kind; start = at; text = take k rest }
 
-within_from : (p : Place) → is_whole p ≡ false → IsWithin p
+pub within_from : (p : Place) → is_whole p ≡ false → IsWithin p
 within_from places.Whole e = absurd cc
 within_from places.Keyword e = tt
 within_from places.Less e = tt
@@ -69,7 +69,7 @@ within_from places.Operand e = tt
 within_from places.Operator e = tt
 within_from places.ResultsEnd e = tt
 
-whole_from : (p : Place) → is_whole p ≡ true → p ≡ places.Whole
+pub whole_from : (p : Place) → is_whole p ≡ true → p ≡ places.Whole
 whole_from places.Whole e = refl
 whole_from places.Keyword e = absurd cc
 whole_from places.Less e = absurd cc
@@ -104,7 +104,7 @@ stands_on text r next at rest kind k e lo hi s w n =
 
 -- ---- the map is whole
 
-whole_read : (r : ReaderShape) (ts : List TokenShape) → is_whole r.spot.place ≡ true → Read r ts → HasRead r.symbols ts (spot places.Whole r.spot.names r.spot.depth r.spot.room) r.gathered
+pub whole_read : (r : ReaderShape) (ts : List TokenShape) → is_whole r.spot.place ≡ true → Read r ts → HasRead r.symbols ts (spot places.Whole r.spot.names r.spot.depth r.spot.room) r.gathered
 whole_read r ts w h = subst (λ (p : Place). HasRead r.symbols ts (spot p r.spot.names r.spot.depth r.spot.room) r.gathered) (whole_from r.spot.place w) h
 
 pub stands_whole : (text : List ℕ) (r next : ReaderShape) (at : ℕ) (rest : List ℕ) (kind : Kind) (k : ℕ) → Some (fronts.Token kind k) ≡ first_front rest → 0 < k → k ≤ length rest → Standing text r at rest

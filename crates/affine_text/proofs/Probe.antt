@@ -1,18 +1,15 @@
 -- From every spot a map's text goes on, and with a number that is too large at any place.
-use Rattle.std.proofs.Common.{◌≡◌, ◌<◌, ◌≤◌, ◌+◌, ℕ, zero, suc, Bool, true, false, List, [], ◌∷◌, ◌++◌, codes, length, Option, Some, None, Result, Ok, Err, ◌⊎◌, refl, sym, ap, subst, ◌∙◌, inl, inr, cond, arith, replicate}
+use Rattle.std.proofs.Common.{◌≡◌, ◌<◌, ◌≤◌, ◌+◌, ℕ, zero, suc, Bool, true, false, List, [], ◌∷◌, ◌++◌, codes, length, Some, None, Err, ◌⊎◌, refl, ap, ◌∙◌, inl, inr, arith}
 use Rattle.std.specs.Prelude.{is_some}
 use Rattle.std.specs.Str.{bytes_eq}
 use Rattle.std.proofs.lemmas.Bool.{cond-false}
-use Rattle.text_format.specs.Token.{TokenShape}
-use Rattle.affine_maps.specs.Shape.{MapShape}
-use Rattle.affine_text.specs.declared.reading.fault.MapError.{MapError}
 use Rattle.affine_text.specs.declared.reading.fault.MapError.TheVariants.{Range}
 use Rattle.affine_text.specs.declared.reading.place.Place.{Place}
 use Rattle.affine_text.specs.declared.reading.place.Place.TheVariants as places
-use Rattle.affine_text.specs.Grammar.{Factor, Name, Number, Negative, Group, Factors, NoFactor, Times, Products, NoProduct, Plus, Minus, Sum, Starts, Items, Empty, From, Declared, Symbols, FactorFits, factor_tokens, is_declared, dimension_of, number_from}
-use Rattle.affine_text.specs.Meaning.{and_then, factor_form, factors_form, in_range}
+use Rattle.affine_text.specs.Grammar.{Factor, Number, NoFactor, Times, NoProduct, Empty, Declared, FactorFits, is_declared, dimension_of, number_from}
+use Rattle.affine_text.specs.Meaning.{factor_form, factors_form, in_range}
 use Rattle.affine_text.specs.Reading.{Gathered}
-use Rattle.affine_text.proofs.GoesOn.{Closing, ClosingFits, Operand, Results, Arrowed, RestAt, RestFits, rest_means, OperandFits, ResultsFit, operand_means}
+use Rattle.affine_text.proofs.GoesOn.{Closing, ClosingFits, Operand, Results, Arrowed, RestAt, RestFits, rest_means, OperandFits, operand_means}
 use Rattle.affine_text.proofs.Signs.{same_bytes}
 
 -- ---- a name that is none of these

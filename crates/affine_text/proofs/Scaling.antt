@@ -1,13 +1,12 @@
 -- Forms in a multiple.
-use Rattle.std.proofs.Common.{◌≡◌, ◌≢◌, ℕ, ◌+◌, ◌*◌, ◌^◌, ◌<◌, ◌≤◌, zero, suc, max, Bool, true, false, not, cond, ◌&&◌, List, [], ◌∷◌, map, ℤ, pos, negsuc, ◌+ℤ◌, ◌*ℤ◌, unsigned_abs, nat_eq, nat_le, refl, sym, ap, subst, ◌∙◌, arith, Ok, Err}
+use Rattle.std.proofs.Common.{◌≡◌, ℕ, ◌*◌, ◌^◌, ◌<◌, ◌≤◌, suc, max, Bool, true, false, not, cond, ◌&&◌, List, [], ◌∷◌, ℤ, pos, negsuc, ◌*ℤ◌, unsigned_abs, nat_le, refl, sym, ap, ◌∙◌, arith, Ok, Err}
 use Rattle.std.proofs.lemmas.Int.{ints, unsigned_abs-mul}
 use borrow.Author.Differences.{up, down, product_is}
-use Rattle.std.proofs.lemmas.Bool.{cond-true, cond-false, leb-true, leb-false, le-leb, lt-leb, and_parts, and_from, eqb-true, eq-eqb, eqb-false, ne_eqb}
+use Rattle.std.proofs.lemmas.Bool.{cond-true, cond-false, leb-true, leb-false, le-leb, eqb-true, eq-eqb, eqb-false, ne_eqb}
 use Rattle.std.proofs.Math.Nat.{mul-pos, mul-zero, zero-mul, mul-le-mul_left}
-use Rattle.payload_ops.specs.Numbers.{is_in_range}
 use Rattle.affine_maps.specs.declared.map.Expr.{Expr}
 use Rattle.affine_text.specs.declared.reading.fault.MapError.TheVariants.{Form, Range}
-use Rattle.affine_text.specs.Collected.{is_zero, constant_form, dimension_form, are_some, has_terms, terms_in_range, form_in_range, scaled, negative_form, times_form}
+use Rattle.affine_text.specs.Collected.{is_zero, constant_form, are_some, has_terms, terms_in_range, form_in_range, scaled, times_form}
 use Rattle.affine_text.specs.Meaning.{in_range, product_of, one_form, zero_form}
 use Rattle.affine_text.specs.Multiples.{greatest_from, greatest_of, times_terms}
 

@@ -1,6 +1,6 @@
 -- The tokens of a text, one after the other, as a loop reads them.
 use Rattle.std.proofs.Common.{◌≡◌, ℕ, zero, suc, ◌+◌, ◌<◌, ◌≤◌, List, [], ◌∷◌, ◌++◌, length, drop, take, Some, None, refl, sym, ap, ◌∙◌, append_assoc, arith}
-use Rattle.std.proofs.lemmas.List.{append-nil, length-drop}
+use Rattle.std.proofs.lemmas.List.{length-drop}
 use Rattle.text_format.specs.declared.front.Kind.{Kind}
 use Rattle.text_format.specs.declared.front.Front.{Front}
 use Rattle.text_format.specs.declared.front.Front.TheVariants as fronts

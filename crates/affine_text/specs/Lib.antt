@@ -6,5 +6,6 @@ pub mod Feeding
 pub mod Grammar
 pub mod Meaning
 pub mod Multiples
+pub mod OfTokens
 pub mod Reading
 pub mod Text

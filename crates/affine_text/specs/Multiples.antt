@@ -4,7 +4,6 @@ use Rattle.payload_ops.specs.Numbers.{is_in_range, is_coefficient}
 use Rattle.payload_ops.specs.declared.memory.Memory.{Memory}
 use Rattle.affine_maps.specs.declared.map.Expr.{Expr}
 use Rattle.affine_text.specs.declared.reading.multiple.Multiple.{Multiple}
-use Rattle.affine_text.specs.declared.reading.fault.MapError.{MapError}
 use Rattle.affine_text.specs.declared.reading.fault.MapError.TheVariants as faults
 use Rattle.affine_text.specs.declared.reading.fault.NoProduct.{NoProduct}
 use Rattle.affine_text.specs.declared.reading.fault.NoProduct.TheVariants as products

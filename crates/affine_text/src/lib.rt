@@ -19,5 +19,5 @@ mod text;
 
 pub use laws::{canonical_map_reads_back, canonical_pieces, one_reading};
 pub use reading::fault::MapError;
-pub use reading::parse::parse_map;
+pub use reading::parse::{map_of, parse_map};
 pub use text::map_text;

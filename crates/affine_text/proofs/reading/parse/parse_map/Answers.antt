@@ -1,10 +1,9 @@
-use Rattle.std.proofs.Common.{◌≡◌, ◌+◌, ◌<◌, ◌≤◌, ℕ, true, false, length, drop, take, List, Some, None, Ok, Err, sym, ap, subst, ◌∙◌, arith}
+use Rattle.std.proofs.Common.{◌≡◌, ◌+◌, ℕ, true, take, List, Some, None, sym, ap, subst, ◌∙◌}
 use Rattle.text_format.specs.declared.front.Front.TheVariants as fronts
 use Rattle.text_format.specs.Bytes.{first_front}
-use Rattle.text_format.specs.Token.{TokenShape}
 use Rattle.affine_maps.specs.Shape.{MapShape}
-use Rattle.affine_text.specs.Faults.{stream_of, IsMapText, IsAnswer}
-use Rattle.affine_text.specs.Feeding.{ReaderShape, first_reader, read_with, is_whole, map_read}
+use Rattle.affine_text.specs.Faults.{stream_of, IsMapText}
+use Rattle.affine_text.specs.Feeding.{ReaderShape, read_with, map_read}
 use Rattle.affine_text.proofs.Parsing.{Standing, stands_first, stands_behind, stands_on, stands_whole, read_is_map, unwrapped, stands_err, stands_byte, stands_unclosed, stands_end}
 use Rattle.affine_text.proofs.reading.parse.parse_map.Goals as goal
 
@@ -32,7 +31,7 @@ unwrap-requires c =
     let fed = ap (read_with c.loop-front.reader) (sym same) ∙ c.in-Ok.ensures in
     let whole = sym c.is_whole.ensures ∙ c.if-is_whole.true in
     c.into_map.ensures.valid.1 (read_is_map c.args.text.now c.feed.new.self (c.loop-front.at + c.in-Token.n)
-      (stands_whole c.args.text.now c.loop-front.reader c.feed.new.self c.loop-front.at c.loop-front.rest.now c.in-Token.kind c.in-Token.n e w.0 w.1 c.loop-front.invariant fed whole))
+    (stands_whole c.args.text.now c.loop-front.reader c.feed.new.self c.loop-front.at c.loop-front.rest.now c.in-Token.kind c.in-Token.n e w.0 w.1 c.loop-front.invariant fed whole))
 
 pub returns-then-is_whole : goal.returns-then-is_whole
 returns-then-is_whole c =

@@ -1,11 +1,8 @@
-use Rattle.std.proofs.Common.{rules, ◌+◌, ◌≡◌, ◌≤◌, ◌<◌, ◌^◌, ◌∙◌, ℕ, ℤ, length, true, false, not, drop, get_or, refl, sym, ap, subst, pos, negsuc, ◌+ℤ◌, ◌*ℤ◌, unsigned_abs, arith, FitsSigned, w64, to_z, of_z, lit≤, List, cond}
-use Rattle.std.proofs.lemmas.Int.{to_z-of_z}
-use Rattle.payload_ops.specs.Numbers.{is_in_range}
-use Rattle.affine_maps.specs.declared.map.Expr.{Expr}
-use Rattle.affine_text.specs.Collected.{coefficient, plus_term, plus_terms, is_zero, terms_in_range}
-use Rattle.affine_text.specs.Multiples.{times_terms, with_terms, is_sum}
-use Rattle.affine_text.proofs.Adding.{Adding, added_one, added_far, added_all, term_added, term_far, terms_added, terms_left_range, collected_of, sum_coefficient, set_removed, set_inserted, set_kept, Left, left_at, plus_at, far_at, ascends_from, all_above, sum_constant, sum_coefficients}
-use Rattle.affine_text.proofs.Multiplying.{multiple_left, multiple_constant, multiple_small, constant_small, range_small, range_fits, added_number, constant_in, other_than_zero, stored_sum, stored_number, stored_again, adds_nothing, constant_far, terms_far, adds_all, stored_zero, small_fits}
+use Rattle.std.proofs.Common.{◌+◌, ◌≡◌, ℕ, ℤ, length, false, refl, sym, ap, subst, arith, List}
+use Rattle.affine_text.specs.Collected.{plus_terms, terms_in_range}
+use Rattle.affine_text.specs.Multiples.{times_terms}
+use Rattle.affine_text.proofs.Adding.{Adding, added_one, added_far, added_all, term_added, term_far}
+use Rattle.affine_text.proofs.Multiplying.{multiple_left}
 use Rattle.affine_text.proofs.reading.collected.Sum.add_terms.Goals as goal
 
 pub loop-term-init : goal.loop-term-init

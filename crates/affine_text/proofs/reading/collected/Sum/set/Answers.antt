@@ -1,13 +1,9 @@
-use Rattle.std.proofs.Common.{rules, ◌≡◌, ◌≤◌, ◌<◌, ◌^◌, ◌∙◌, ℕ, ℤ, length, true, false, not, drop, get_or, refl, sym, ap, subst, pos, negsuc, ◌+ℤ◌, ◌*ℤ◌, unsigned_abs, arith, FitsSigned, w64, to_z, of_z, lit≤, List, cond}
-use Rattle.std.proofs.lemmas.Int.{to_z-of_z}
+use Rattle.std.proofs.Common.{◌≡◌, ◌∙◌, false, sym, ap}
 use Rattle.std.specs.Ordering.{nat_cmp}
 use Rattle.std.specs.BTreeMap.{insert_entry}
-use Rattle.payload_ops.specs.Numbers.{is_in_range}
-use Rattle.affine_maps.specs.declared.map.Expr.{Expr}
-use Rattle.affine_text.specs.Collected.{coefficient, plus_term, plus_terms, is_zero, terms_in_range}
-use Rattle.affine_text.specs.Multiples.{times_terms, with_terms, is_sum}
-use Rattle.affine_text.proofs.Adding.{sum_coefficient, set_removed, set_inserted, set_kept, Left, left_at, plus_at, far_at, ascends_from, all_above, sum_constant, sum_coefficients}
-use Rattle.affine_text.proofs.Multiplying.{multiple_left, multiple_constant, multiple_small, constant_small, range_small, range_fits, added_number, stored_again, adds_nothing, constant_far, terms_far, adds_all, stored_zero, small_fits}
+use Rattle.affine_text.specs.Collected.{is_zero}
+use Rattle.affine_text.proofs.Adding.{set_removed, set_inserted, set_kept}
+use Rattle.affine_text.proofs.Multiplying.{stored_again}
 use Rattle.affine_text.proofs.reading.collected.Sum.set.Goals as goal
 use Rattle.affine_text.proofs.reading.collected.Sum.set.Goals.{in-Ok, in-Err}
 

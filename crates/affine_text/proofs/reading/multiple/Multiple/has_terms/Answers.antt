@@ -1,7 +1,5 @@
-use Rattle.std.proofs.Common.{rules, not, ◌≡◌, ◌≤◌, ◌^◌, ◌∙◌, refl, sym, ap, subst, pos, negsuc, ◌*ℤ◌, unsigned_abs, arith, FitsSigned, w64, to_z, of_z, lit≤}
-use Rattle.affine_text.proofs.Scaling.{scaled_one, no_product}
-use Rattle.affine_text.specs.Multiples.{value_of, IsMultiple}
-use Rattle.affine_text.proofs.Multiplying.{product_value, number_value, terms_then, terms_else, negated_value, negated_holds, times_ok, times_far, form_holds, constant_alone, collected_constant, within_far, stored_zero, small_fits, stored_by, stored_product, stored_within, product_fits, multiple_small, kept_is}
+use Rattle.std.proofs.Common.{rules, not, ap, FitsSigned, w64}
+use Rattle.affine_text.proofs.Multiplying.{terms_then, terms_else, stored_zero}
 use Rattle.affine_text.proofs.reading.multiple.Multiple.has_terms.Goals as goal
 
 pub returns-then-not-is_zero : goal.returns-then-not-is_zero

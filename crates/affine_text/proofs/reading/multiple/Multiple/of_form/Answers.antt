@@ -1,7 +1,6 @@
-use Rattle.std.proofs.Common.{rules, ℕ, ◌≡◌, ◌≤◌, ◌^◌, ◌∙◌, refl, sym, ap, subst, pos, negsuc, ◌*ℤ◌, unsigned_abs, arith, FitsSigned, w64, to_z, of_z, lit≤}
-use Rattle.affine_text.proofs.Scaling.{scaled_one, no_product}
-use Rattle.affine_text.specs.Multiples.{value_of, IsMultiple}
-use Rattle.affine_text.proofs.Multiplying.{product_value, number_value, terms_then, terms_else, negated_value, negated_holds, times_ok, times_far, form_holds, constant_alone, collected_constant, stored_constant, within_far, stored_zero, small_fits, stored_by, stored_product, stored_within, product_fits, multiple_small, kept_is}
+use Rattle.std.proofs.Common.{ℕ, ◌∙◌, ap, pos}
+use Rattle.affine_text.proofs.Scaling.{scaled_one}
+use Rattle.affine_text.proofs.Multiplying.{form_holds, constant_alone, collected_constant, stored_constant}
 use Rattle.payload_ops.specs.Numbers.{is_in_range}
 use Rattle.affine_text.specs.Collected.{constant_form}
 use Rattle.affine_text.specs.declared.reading.multiple.Multiple.{Multiple}

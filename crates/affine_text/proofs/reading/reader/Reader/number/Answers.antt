@@ -1,11 +1,11 @@
-use Rattle.std.proofs.Common.{◌≡◌, ℕ, List, Some, None, Result, Err, sym, ap, subst, ◌∙◌}
+use Rattle.std.proofs.Common.{◌≡◌, Some, None, Result, Err, sym, ap, subst, ◌∙◌}
 use Rattle.affine_maps.specs.declared.map.Expr.{Expr}
 use Rattle.affine_text.specs.declared.reading.fault.MapError.{MapError}
 use Rattle.affine_text.specs.declared.reading.fault.MapError.TheVariants.{Range}
 use Rattle.affine_text.specs.declared.reading.place.Place.TheVariants as places
-use Rattle.affine_text.specs.Meaning.{and_then, number_form}
-use Rattle.affine_text.specs.Reading.{Gathered, with_factor}
-use Rattle.affine_text.specs.Feeding.{Answers, ReaderShape, goes_with, number_of}
+use Rattle.affine_text.specs.Meaning.{and_then}
+use Rattle.affine_text.specs.Reading.{with_factor}
+use Rattle.affine_text.specs.Feeding.{Answers, goes_with, number_of}
 use Rattle.affine_text.proofs.Digits.{number_read, number_far}
 use Rattle.affine_text.proofs.reading.reader.Reader.number.Goals as goal
 
