@@ -6,16 +6,11 @@ use Rattle.mlir_meaning.specs.declared.answer.Fault.{Fault}
 use Rattle.mlir_meaning.specs.declared.answer.Fault.TheVariants.{Division, Stuck}
 pub use Rattle.mlir_meaning.specs.declared.values.Datum.{Datum}
 pub use Rattle.mlir_meaning.specs.declared.values.Datum.TheVariants.{Number, Bits, Cells}
+pub use Rattle.mlir_meaning.specs.declared.values.Insertion.{Insertion}
 use Rattle.mlir_ir.specs.declared.tree.Ty.{Ty}
 use Rattle.mlir_ir.specs.declared.tree.ValueId.{ValueId}
 use Rattle.mlir_ir.specs.declared.tree.Idx.{Idx}
 use Rattle.mlir_ir.specs.declared.tree.Idx.TheVariants.{Literal, Value}
-
--- a tile that a `scf.forall` is to insert into its shared output of this position
-pub record Insertion : Type 0 where
-  pub output : ℕ
-  pub tile : Grid
-  pub offsets : List ℕ
 
 -- the values by their numbers; and, in the body of a `scf.forall`, the names of its shared outputs and the insertions so far
 pub record State : Type 0 where

@@ -1,7 +1,8 @@
 //! What a function gives on its inputs, and the laws that later crates stand on.
 //!
 //! - [`Answer`] is what a function gives: its result tensors, or why there are none ([`Fault`]).
-//! - [`Datum`] is what a value holds as a function runs, and [`Grid`] the cells of a tensor or a vector.
+//! - [`Datum`] is what a value holds as a function runs, and [`Grid`] the cells of a tensor or a vector;
+//!   an [`Insertion`] is a tile that a `scf.forall` is to insert.
 //! - The law functions, from [`operations_run_in_turn`] to [`regions_read_and_write`], have no code: their
 //!   contracts are the laws.
 //!
@@ -21,4 +22,4 @@ pub use laws::{
     numbers_carry_no_meaning, operations_depend_on_what_they_read, operations_run_in_turn,
     regions_read_and_write, replacement_keeps_meaning,
 };
-pub use values::{Datum, Grid};
+pub use values::{Datum, Grid, Insertion};

@@ -16,3 +16,11 @@ pub enum Datum {
     Bits(u64),
     Cells { width: Width, grid: Grid },
 }
+
+/// A tile that a `scf.forall` is to insert into its shared output of this position.
+#[derive(Debug, Drop)]
+pub struct Insertion {
+    pub output: usize,
+    pub tile: Grid,
+    pub offsets: List<u64>,
+}

@@ -1,0 +1,4 @@
+mod ListLemmas
+mod PayloadLemmas
+mod StructuredLemmas
+mod CopyLemmas
