@@ -13,18 +13,25 @@
 //! `proofs/Verified.antt` has what holds at each place of a verified module.
 #![tactic(auto)]
 
+mod axes;
 mod built;
 mod checked;
+mod constants;
+mod ends;
 mod extents;
+mod limits;
 mod maps;
+mod named;
 mod names;
 mod rule;
 mod scope;
 mod structured;
+mod tensors;
 #[cfg(test)]
 mod tests;
 mod types;
 mod walk;
+mod windows;
 
 pub use checked::Checked;
 pub use rule::{Refused, Rule};
