@@ -24,7 +24,7 @@ use Rattle.mlir_verify.specs.Constants.{Constants}
 use Rattle.mlir_verify.specs.Types.{is_typed}
 use Rattle.mlir_verify.specs.Ends.{is_return, has_fixed_signature}
 use Rattle.mlir_verify.specs.Maps.{Axis, axes, extent_of, output_map, output_dimensions, fit_operands, cover_dimensions, match_output, is_iterator, breaks_maps, breaks_iterators}
-use Rattle.mlir_verify.specs.Extents.{axes_agree, has_extent, keeps_output, breaks_extents}
+use Rattle.mlir_verify.specs.Extents.{axes_agree, are_same_extents, has_extent, keeps_output, breaks_extents}
 use Rattle.mlir_verify.specs.Windows.{Extents, inputs_stay_in, breaks_windows}
 use Rattle.mlir_verify.specs.Limits.{is_small_op, has_small_signature}
 use Rattle.mlir_verify.specs.Scope.{IsSet}
@@ -39,6 +39,11 @@ is_in s d = sorted.contains nat_cmp s d
 
 abbrev pub extent_in : BTreeMap ℕ Extent → ℕ → Option Extent
 extent_in m d = tree.get nat_cmp m d
+
+-- the rest of the extents, where a first one was the same
+abbrev pub are_same_after : List Extent → Option (List Extent) → Bool
+are_same_after xs None = false
+are_same_after xs (Some ys) = are_same_extents xs ys
 
 abbrev pub lowest_loop_rule : Bool → Bool → Bool → Bool → Option Rule
 lowest_loop_rule maps iterators extents windows =

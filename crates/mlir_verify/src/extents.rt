@@ -1,8 +1,10 @@
-ghost use Rattle.std.specs.Prelude.{◌≡◌, ◌&&◌, length, option_copied};
+ghost use Rattle.std.specs.Prelude.{◌≡◌, ◌&&◌, List, ◌∷◌, length, slice_get, option_copied};
 ghost use Rattle.std.specs.List.{list_all, zip};
 ghost use Rattle.affine_maps.specs.Permutation.{is_among};
 ghost use Rattle.mlir_verify.specs.Extents.{is_same_extent, has_extent, are_same_extents, has_extents_of, is_product, is_batch_product, is_transposed, is_broadcast};
 ghost use Rattle.mlir_verify.specs.Scope.{types_in};
+ghost use Rattle.mlir_verify.specs.Stages.{are_same_after};
+ghost use Rattle.mlir_ir.specs.declared.tree.Extent.{Extent};
 
 use crate::scope::Scope;
 use crate::tensors::extents_of;
@@ -79,6 +81,12 @@ pub(crate) fn is_batch_product(a: &[Extent], b: &[Extent], out: &[Extent]) -> bo
     }
 }
 
+fn has_axis(source: &[Extent], axis: u32, x: Extent) -> bool
+    ensures { result ≡ has_extent (slice_get source.now axis) x }
+{
+    has_extent(source.get(axis as usize), x)
+}
+
 /// Whether axis k of the output has the extent of axis `order[k]` of the source.
 pub(crate) fn is_transposed(order: &[u32], source: &[Extent], out: &[Extent]) -> bool
     ensures { result ≡ is_transposed order.now source.now out.now }
@@ -86,13 +94,23 @@ pub(crate) fn is_transposed(order: &[u32], source: &[Extent], out: &[Extent]) ->
     order
         .iter()
         .zip(out)
-        .all(|(k, x)| has_extent(source.get(*k as usize), *x))
+        .all(|(k, x)| has_axis(source, *k, *x))
 }
 
 fn is_among(axis: usize, axes: &[u32]) -> bool
     ensures { result ≡ is_among axis axes.now }
 {
     axes.iter().any(|named| *named as usize == axis)
+}
+
+/// What is left of the extents behind a first one that is the same.
+fn after_same<'a>(x: Extent, ys: &'a [Extent]) -> Option<&'a [Extent]>
+    ensures { (xs : List Extent) → are_same_extents (x ∷ xs) ys.now ≡ are_same_after xs (option_copied result) }
+{
+    match ys {
+        [y, rest @ ..] if is_same_extent(x, *y) => Some(rest),
+        _ => None,
+    }
 }
 
 /// Whether the output's axes that aren't added are the source's, in order.
@@ -104,14 +122,9 @@ pub(crate) fn is_broadcast(added: &[u32], source: &[Extent], out: &[Extent]) -> 
         if is_among(k, added) {
             continue;
         }
-        match left {
-            [y, rest @ ..] => {
-                if !is_same_extent(*x, *y) {
-                    return false;
-                }
-                left = rest;
-            }
-            [] => return false,
+        match after_same(*x, left) {
+            Some(rest) => left = rest,
+            None => return false,
         }
     }
     left.is_empty()

@@ -55,13 +55,23 @@ impl<'a> Scope<'a> {
     }
 }
 
+fn insert(set: &mut BTreeSet<u32>, n: u32) -> Result<(), Memory>
+    ensures { OnOk result ((known : List ℕ) → IsSet set.old known → IsSet set.new (known ++ n ∷ [])) }
+{
+    match set.insert(n) {
+        Ok(_) => Ok(()),
+        Err(_) => Err(Memory),
+    }
+}
+
 /// Adds the numbers of these definitions.
 fn insert_all(set: &mut BTreeSet<u32>, definitions: &[(ValueId, Ty)]) -> Result<(), Memory>
     ensures { OnOk result ((known : List ℕ) → IsSet set.old known → IsSet set.new (known ++ numbers definitions.now)) }
 {
     for d in definitions {
-        if set.insert(d.0.0).is_err() {
-            return Err(Memory);
+        match insert(set, d.0.0) {
+            Ok(()) => {}
+            Err(e) => return Err(e),
         }
     }
     Ok(())

@@ -1,4 +1,4 @@
-ghost use Rattle.std.specs.Prelude.{◌≡◌, ◌^◌, ◌-◌, min, length, option_copied};
+ghost use Rattle.std.specs.Prelude.{◌≡◌, ◌^◌, ◌-◌, ◌<◌, min, length, option_copied};
 ghost use Rattle.std.specs.List.{list_all};
 ghost use Rattle.mlir_verify.specs.Tensors.{is_fixed, is_fixed_tensor, size_of, elements, extents_of, rank_of, is_tensor, has_elements, are_as_wide, is_alike, result_type};
 
@@ -58,7 +58,8 @@ pub(crate) fn extents_of<'a>(ty: Option<&'a Ty>) -> &'a [Extent]
 
 /// The number of axes of a tensor.
 pub(crate) fn rank_of(ty: Option<&Ty>) -> usize
-    ensures { result ≡ rank_of (option_copied ty.entry) }
+    ensures value { result ≡ rank_of (option_copied ty.entry) }
+    ensures within { result < 2 ^ 63 }
 {
     extents_of(ty).len()
 }
