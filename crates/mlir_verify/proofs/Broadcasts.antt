@@ -21,9 +21,9 @@ other_is_kept named k x xs e =
 
 suc_eq : (m n : ℕ) → (suc m == suc n) ≡ (m == n)
 suc_eq m n = elim (eqb_tells m n) as (λ _. (suc m == suc n) ≡ (m == n)) [
-    inl t ↦ elim (eqb_tells (suc m) (suc n)) as (λ _. (suc m == suc n) ≡ (m == n)) [ inl u ↦ u.0 ∙ sym t.0 | inr u ↦ absurd (u.1 (omega arith)) ]
+  | inl t ↦ elim (eqb_tells (suc m) (suc n)) as (λ _. (suc m == suc n) ≡ (m == n)) [ inl u ↦ u.0 ∙ sym t.0 | inr u ↦ absurd (u.1 (omega arith)) ]
   | inr t ↦ elim (eqb_tells (suc m) (suc n)) as (λ _. (suc m == suc n) ≡ (m == n)) [ inl u ↦ absurd (t.1 (let q = u.1 in omega arith)) | inr u ↦ u.0 ∙ sym t.0 ]
-  ]
+]
 
 and_swaps : (a b c : Bool) → (a && (b && c)) ≡ (b && (a && c))
 and_swaps true b c = refl

@@ -65,7 +65,7 @@ generic_misfits t results maps iterators ins outs f =
 pub box_fits : (r : Result (Option Rule) Memory) (t : Types) (results : List (ValueId × Ty)) (maps : List MapShape) (iterators : List Iter) (ins : List ValueId) (outs : ValueId) (s : BTreeSet ℕ) →
     FitsOperands (Some s) t maps iterators ins outs →
     IfOk r (λ x. IsSet s (output_dimensions (output_map maps)) →
-      x ≡ broken_points (extent_of (axes t maps ins outs)) (λ d. is_among d (output_dimensions (output_map maps))) (axes t maps ins outs) t results maps iterators ins outs) →
+    x ≡ broken_points (extent_of (axes t maps ins outs)) (λ d. is_among d (output_dimensions (output_map maps))) (axes t maps ins outs) t results maps iterators ins outs) →
     IfOk r (λ x. x ≡ broken_generic t results maps iterators ins outs)
 box_fits (Ok x) t results maps iterators ins outs s f h = h f.1 ∙ generic_fits t results maps iterators ins outs f.0
 box_fits (Err e) t results maps iterators ins outs s f h = tt

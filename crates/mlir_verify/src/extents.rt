@@ -91,10 +91,7 @@ fn has_axis(source: &[Extent], axis: u32, x: Extent) -> bool
 pub(crate) fn is_transposed(order: &[u32], source: &[Extent], out: &[Extent]) -> bool
     ensures { result ≡ is_transposed order.now source.now out.now }
 {
-    order
-        .iter()
-        .zip(out)
-        .all(|(k, x)| has_axis(source, *k, *x))
+    order.iter().zip(out).all(|(k, x)| has_axis(source, *k, *x))
 }
 
 fn is_among(axis: usize, axes: &[u32]) -> bool

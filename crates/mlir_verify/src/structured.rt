@@ -107,19 +107,17 @@ fn broken_box(
     };
     match extents_by_dimension(alloc, axes.as_slice()) {
         Ok(extents) => {
-            Ok(
-                broken_points(
-                    scope,
-                    &extents,
-                    output,
-                    axes.as_slice(),
-                    results,
-                    maps,
-                    iterators,
-                    ins,
-                    outs,
-                ),
-            )
+            Ok(broken_points(
+                scope,
+                &extents,
+                output,
+                axes.as_slice(),
+                results,
+                maps,
+                iterators,
+                ins,
+                outs,
+            ))
         }
         Err(e) => Err(e),
     }
@@ -223,43 +221,28 @@ pub(crate) fn broken_loops(
         }
         OpKind::Fill { outs, .. } => Ok(unless_kept(keeps_output(scope, results, *outs))),
         OpKind::Matmul { a, b, outs } => {
-            Ok(
-                unless_kept(
-                    multiplies(scope, *a, *b, *outs) && keeps_output(scope, results, *outs),
-                ),
-            )
+            Ok(unless_kept(multiplies(scope, *a, *b, *outs) && keeps_output(scope, results, *outs)))
         }
         OpKind::BatchMatmul { a, b, outs } => {
-            Ok(
-                unless_kept(
-                    multiplies_batches(scope, *a, *b, *outs)
-                        && keeps_output(scope, results, *outs),
-                ),
-            )
+            Ok(unless_kept(
+                multiplies_batches(scope, *a, *b, *outs) && keeps_output(scope, results, *outs),
+            ))
         }
         OpKind::Transpose {
             source,
             outs,
             order,
         } => {
-            Ok(
-                unless_kept(
-                    transposes(scope, order.as_slice(), *source, *outs)
-                        && keeps_output(scope, results, *outs),
-                ),
-            )
+            Ok(unless_kept(
+                transposes(scope, order.as_slice(), *source, *outs)
+                    && keeps_output(scope, results, *outs),
+            ))
         }
-        OpKind::Broadcast {
-            source,
-            outs,
-            dims,
-        } => {
-            Ok(
-                unless_kept(
-                    broadcasts(scope, dims.as_slice(), *source, *outs)
-                        && keeps_output(scope, results, *outs),
-                ),
-            )
+        OpKind::Broadcast { source, outs, dims } => {
+            Ok(unless_kept(
+                broadcasts(scope, dims.as_slice(), *source, *outs)
+                    && keeps_output(scope, results, *outs),
+            ))
         }
         OpKind::Return { values } => {
             Ok(unless_kept(have_extents_of(scope, values.as_slice(), func.results.as_slice())))

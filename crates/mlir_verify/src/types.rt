@@ -42,9 +42,7 @@ fn is_input(ty: Option<&Ty>, constant: bool, elem: &ElemTy) -> bool
 fn are_inputs(scope: &Scope, ins: &[ValueId], elems: &[ElemTy]) -> bool
     ensures { result ≡ list_all (λ x. is_input (types_in scope.now (x.0).0) (constants_in scope.now (x.0).0) x.1) (zip ins.now elems.now) }
 {
-    ins.iter()
-        .zip(elems)
-        .all(|(v, elem)| is_input(scope.type_of(*v), scope.is_constant(*v), elem))
+    ins.iter().zip(elems).all(|(v, elem)| is_input(scope.type_of(*v), scope.is_constant(*v), elem))
 }
 
 fn is_typed_payload(
@@ -81,7 +79,12 @@ fn is_typed_generic(
 fn is_matmul(scope: &Scope, axes: usize, a: ValueId, b: ValueId, outs: ValueId) -> bool
     ensures { result ≡ is_typed_product axes (types_in scope.now a.0) (types_in scope.now b.0) (types_in scope.now outs.0) }
 {
-    is_typed_product(axes, scope.type_of(a), scope.type_of(b), scope.type_of(outs))
+    is_typed_product(
+        axes,
+        scope.type_of(a),
+        scope.type_of(b),
+        scope.type_of(outs),
+    )
 }
 
 fn is_transpose(scope: &Scope, order: &[u32], source: ValueId, outs: ValueId) -> bool
@@ -163,12 +166,12 @@ pub(crate) fn is_typed(scope: &Scope, func: &Func, op: &Op) -> bool
             order,
         } => is_transpose(scope, order.as_slice(), *source, *outs)
             && gives_output(scope, op, *outs),
-        OpKind::Broadcast {
-            source,
-            outs,
-            dims,
-        } => is_broadcast(scope, dims.as_slice(), *source, *outs)
-            && gives_output(scope, op, *outs),
+        OpKind::Broadcast { source, outs, dims } => is_broadcast(
+            scope,
+            dims.as_slice(),
+            *source,
+            *outs,
+        ) && gives_output(scope, op, *outs),
         OpKind::Return { values } => is_typed_return(scope, func, op, values.as_slice()),
         _ => true,
     }

@@ -61,12 +61,7 @@ fn stays_in(dims: u32, e: &Expr, extent: Extent, extents: &BTreeMap<usize, Exten
     e.dimension().is_some() || is_below(greatest_value(dims, e, extents), extent)
 }
 
-fn stay_in(
-    dims: u32,
-    results: &[Expr],
-    axes: &[Extent],
-    extents: &BTreeMap<usize, Extent>,
-) -> bool
+fn stay_in(dims: u32, results: &[Expr], axes: &[Extent], extents: &BTreeMap<usize, Extent>) -> bool
     requires { IsTrue (list_all (expr_fits dims) results.now) }
     ensures { result ≡ list_all (stays_in (extent_in extents.now)) (zip results.now axes.now) }
 {
