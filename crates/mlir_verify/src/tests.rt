@@ -1,59 +1,27 @@
-//! Modules of one function or of two, and the rule that each breaks first.
+//! Small modules, and the rule that each breaks first.
 
 mod build;
 
-use crate::{Refused, Rule, verify};
-use build::{Kind, Loops, Selection, Shape, Sketch, module, two_functions};
-use mlir_ir::{Iter, Module};
-use payload_ops::Memory;
+use crate::{Rule, verify};
+use build::{Sketch, constant, generic, map, numbers, scalar, select, single, tensor};
+use mlir_ir::{Iter, OpKind, ValueId};
+use payload_ops::{List, Memory};
 use std::alloc::Global;
+
+type Answer = Result<Option<(Rule, u32)>, Memory>;
 
 const PARALLEL: Iter = Iter::Parallel;
 
 const REDUCTION: Iter = Iter::Reduction;
 
-/// The rule that a module breaks and the number of the operation, or none.
-fn broken(alloc: Global, m: Module) -> Result<Option<(Rule, u32)>, Memory> {
-    match verify(alloc, m) {
-        Ok(_) => Ok(None),
-        Err(Refused::Rule { rule, op }) => Ok(Some((rule, op.0))),
-        Err(Refused::Memory) => Err(Memory),
-    }
-}
-
-fn answer(alloc: Global, sketch: &Sketch<'_>) -> Result<Option<(Rule, u32)>, Memory> {
-    broken(alloc, module(alloc, sketch)?)
-}
-
-/// A generic of one input and one output of `i32`, between the parameters and `return`.
-fn generic(
-    alloc: Global,
-    from: &[u32],
-    to: &[u32],
-    loops: &Loops<'_>,
-) -> Result<Option<(Rule, u32)>, Memory> {
-    let sketch = Sketch {
-        params: &[Shape::Tensor(from, 32), Shape::Tensor(to, 32)],
-        ops: &[
-            (
-                Kind::Generic(*loops, &[32], &[0], 1),
-                Some(Shape::Tensor(to, 32)),
-            ),
-            (Kind::Return(&[2]), None),
-        ],
-        results: &[Shape::Tensor(to, 32)],
-    };
-    answer(alloc, &sketch)
-}
-
 #[test]
 fn gives_the_module_back(rt: HostRuntime) -> Result<(), Memory> {
-    let sketch = Sketch {
-        params: &[],
-        ops: &[(Kind::Return(&[]), None)],
-        results: &[],
-    };
-    match verify(rt.alloc(), module(rt.alloc(), &sketch)?) {
+    let alloc = rt.alloc();
+    let mut sketch = Sketch::new(alloc);
+    sketch.param(tensor(alloc, &[3], 8)?)?;
+    sketch.result(tensor(alloc, &[3], 8)?)?;
+    sketch.end(&[0])?;
+    match verify(alloc, sketch.module()?) {
         Ok(c) => {
             assert_eq!(rt; c.module().funcs.as_slice().len(), 1);
             assert_eq!(rt; c.into_module().funcs.as_slice().len(), 1);
@@ -63,25 +31,19 @@ fn gives_the_module_back(rt: HostRuntime) -> Result<(), Memory> {
     }
 }
 
-/// (d0) -> (d0 + 1) or another selection from the input, and the output in order.
-fn window(
-    alloc: Global,
-    from: u32,
-    to: u32,
-    selection: Selection<'_>,
-) -> Result<Option<(Rule, u32)>, Memory> {
-    let loops = Loops {
-        dims: 1,
-        maps: &[&[selection], &[(0, &[(0, 1)])]],
-        iterators: &[PARALLEL],
-        index: None,
-    };
-    generic(alloc, &[from], &[to], &loops)
+/// Reads `from` elements at `constant + coefficient * d0`, into `to` elements.
+fn window(alloc: Global, from: u32, to: u32, constant: i64, coefficient: i64) -> Answer {
+    let mut maps = List::new(alloc);
+    maps.push(map(alloc, 1, &[(constant, coefficient, 0)])?)?;
+    maps.push(map(alloc, 1, &[(0, 1, 0)])?)?;
+    let kind = generic(alloc, maps, &[PARALLEL], &[0], 2, 0)?;
+    let a = tensor(alloc, &[from], 32)?;
+    let b = tensor(alloc, &[], 32)?;
+    single(alloc, kind, a, b, &[to], 32)
 }
 
 #[test]
 fn reads_inside_the_input(rt: HostRuntime) -> Result<(), Memory> {
-    let alloc = rt.alloc();
     for (from, to, constant, coefficient, expected) in [
         (3u32, 2u32, 1i64, 1i64, None),
         (2, 2, 1, 1, Some((Rule::V8, 0u32))),
@@ -92,513 +54,323 @@ fn reads_inside_the_input(rt: HostRuntime) -> Result<(), Memory> {
         (2, 2, -1, 1, Some((Rule::V5, 0))),
         (2, 3, 0, 1, Some((Rule::V7, 0))),
     ] {
-        let terms = [(0u32, coefficient)];
-        assert_eq!(rt; window(alloc, from, to, (constant, &terms))?, expected);
+        assert_eq!(rt;
+            window(rt.alloc(), from, to, constant, coefficient)?,
+            expected
+        );
     }
     Ok(())
 }
 
-/// A window `(d0 + d1)` over a row of `from` elements, with a kernel of `kernel`, into a row of `to`.
-fn convolution(
-    alloc: Global,
-    from: u32,
-    kernel: u32,
-    to: u32,
-    second: Iter,
-) -> Result<Option<(Rule, u32)>, Memory> {
-    let loops = Loops {
-        dims: 2,
-        maps: &[
-            &[(0, &[(0, 1), (1, 1)])],
-            &[(0, &[(1, 1)])],
-            &[(0, &[(0, 1)])],
-        ],
-        iterators: &[PARALLEL, second],
-        index: Some(1),
-    };
-    let sketch = Sketch {
-        params: &[
-            Shape::Tensor(&[from], 32),
-            Shape::Tensor(&[kernel], 32),
-            Shape::Tensor(&[to], 32),
-        ],
-        ops: &[
-            (
-                Kind::Generic(loops, &[32, 32], &[0, 1], 2),
-                Some(Shape::Tensor(&[to], 32)),
-            ),
-            (Kind::Return(&[3]), None),
-        ],
-        results: &[Shape::Tensor(&[to], 32)],
-    };
-    answer(alloc, &sketch)
+/// A window `(d0 + d1)` over `from` elements, with a kernel of `kernel`, into `to`; the payload looks at dimension `index`.
+fn slide(alloc: Global, from: u32, kernel: u32, to: u32, second: Iter, index: u32) -> Answer {
+    let mut maps = List::new(alloc);
+    maps.push(map(alloc, 2, &[(0, 1, 1)])?)?;
+    maps.push(map(alloc, 2, &[(0, 0, 1)])?)?;
+    maps.push(map(alloc, 2, &[(0, 1, 0)])?)?;
+    let kind = generic(alloc, maps, &[PARALLEL, second], &[0, 1], 2, index)?;
+    let a = tensor(alloc, &[from], 32)?;
+    let b = tensor(alloc, &[kernel], 32)?;
+    single(alloc, kind, a, b, &[to], 32)
 }
 
 #[test]
 fn slides_windows(rt: HostRuntime) -> Result<(), Memory> {
-    let alloc = rt.alloc();
-    for (from, kernel, to, second, expected) in [
-        (4u32, 2u32, 3u32, REDUCTION, None),
-        (3, 2, 3, REDUCTION, Some((Rule::V8, 0u32))),
-        (0, 0, 3, REDUCTION, None),
-        (4, 2, 3, PARALLEL, Some((Rule::V6, 0))),
-    ] {
-        assert_eq!(rt; convolution(alloc, from, kernel, to, second)?, expected);
-    }
-    Ok(())
-}
-
-/// An operation on a source or two parameters of `i8`, into an output of `i32`.
-fn named(
-    alloc: Global,
-    a: Shape<'_>,
-    b: Shape<'_>,
-    out: Shape<'_>,
-    kind: Kind<'_>,
-) -> Result<Option<(Rule, u32)>, Memory> {
-    let sketch = Sketch {
-        params: &[a, b, out],
-        ops: &[(kind, Some(out)), (Kind::Return(&[3]), None)],
-        results: &[out],
-    };
-    answer(alloc, &sketch)
-}
-
-#[test]
-fn multiplies(rt: HostRuntime) -> Result<(), Memory> {
-    let alloc = rt.alloc();
-    let matmul = Kind::Matmul(0, 1, 2);
-    for (a, b, width, expected) in [
-        ([2u32, 3u32], [3u32, 4u32], 8u8, None),
-        ([2, 3], [2, 4], 8, Some((Rule::V7, 0u32))),
-        ([2, 3], [3, 5], 8, Some((Rule::V7, 0))),
-        ([2, 3], [3, 4], 64, Some((Rule::V2, 0))),
-    ] {
-        let found = named(
-            alloc,
-            Shape::Tensor(&a, width),
-            Shape::Tensor(&b, width),
-            Shape::Tensor(&[2, 4], 32),
-            matmul,
-        )?;
-        assert_eq!(rt; found, expected);
-    }
-    for (b, width, expected) in [
-        ([5u32, 3u32, 4u32].as_slice(), 8u8, None),
-        (&[6, 3, 4], 8, Some((Rule::V7, 0u32))),
-        (&[5, 3, 4], 16, Some((Rule::V2, 0))),
-        (&[3, 4], 8, Some((Rule::V2, 0))),
-    ] {
-        let found = named(
-            alloc,
-            Shape::Tensor(&[5, 2, 3], 8),
-            Shape::Tensor(b, width),
-            Shape::Tensor(&[5, 2, 4], 32),
-            Kind::BatchMatmul(0, 1, 2),
-        )?;
-        assert_eq!(rt; found, expected);
-    }
-    Ok(())
-}
-
-#[test]
-fn moves_axes(rt: HostRuntime) -> Result<(), Memory> {
-    let alloc = rt.alloc();
-    let source = Shape::Tensor(&[2, 3, 4], 8);
-    for (order, out, expected) in [
-        ([2u32, 0u32, 1u32].as_slice(), [4u32, 2u32, 3u32], None),
-        (&[2, 0, 1], [4, 3, 2], Some((Rule::V7, 0u32))),
-        (&[2, 0, 0], [4, 2, 2], Some((Rule::V2, 0))),
-        (&[3, 0, 1], [4, 2, 3], Some((Rule::V2, 0))),
-        (&[0, 1], [4, 2, 3], Some((Rule::V2, 0))),
-    ] {
-        let kind = Kind::Transpose(0, 2, order);
-        let found = named(alloc, source, source, Shape::Tensor(&out, 8), kind)?;
-        assert_eq!(rt; found, expected);
-    }
-    let row = Shape::Tensor(&[3], 8);
-    for (dims, out, expected) in [
-        ([0u32, 2u32].as_slice(), [2u32, 3u32, 4u32], None),
-        (&[1, 0], [2, 4, 3], None),
-        (&[0, 1], [2, 3, 4], Some((Rule::V7, 0u32))),
-        (&[0, 0], [2, 3, 4], Some((Rule::V2, 0))),
-        (&[0, 3], [2, 3, 4], Some((Rule::V2, 0))),
-        (&[0], [2, 3, 4], Some((Rule::V2, 0))),
-    ] {
-        let kind = Kind::Broadcast(0, 2, dims);
-        let found = named(alloc, row, row, Shape::Tensor(&out, 8), kind)?;
-        assert_eq!(rt; found, expected);
-    }
-    Ok(())
-}
-
-/// A constant that an operation takes, into an output of `i32`; the output is parameter 0 and the constant value 1.
-fn with_constant(
-    alloc: Global,
-    cells: &[u64],
-    ty: Shape<'_>,
-    kind: Kind<'_>,
-) -> Result<Option<(Rule, u32)>, Memory> {
-    let out = Shape::Tensor(&[3], 32);
-    let sketch = Sketch {
-        params: &[out],
-        ops: &[
-            (Kind::Constant(cells), Some(ty)),
-            (kind, Some(out)),
-            (Kind::Return(&[2]), None),
-        ],
-        results: &[out],
-    };
-    answer(alloc, &sketch)
-}
-
-#[test]
-fn takes_constants(rt: HostRuntime) -> Result<(), Memory> {
-    let alloc = rt.alloc();
-    for (cells, ty, expected) in [
-        ([255u64].as_slice(), Shape::Scalar(32), None),
-        (&[255], Shape::Scalar(8), Some((Rule::V2, 1u32))),
-        (&[256], Shape::Scalar(8), Some((Rule::V2, 0))),
-        (&[1, 1], Shape::Scalar(1), Some((Rule::V2, 0))),
-        (&[5], Shape::Tensor(&[], 32), Some((Rule::V2, 1))),
-        (&[5, 6], Shape::Tensor(&[2, 2], 32), Some((Rule::V2, 0))),
-        (
-            &[],
-            Shape::Tensor(&[u32::MAX, u32::MAX, u32::MAX, 0], 32),
-            Some((Rule::V14, 0)),
-        ),
-        (&[], Shape::Tensor(&[0, 3], 32), Some((Rule::V2, 1))),
+    for (from, kernel, second, index, expected) in [
+        (4u32, 2u32, REDUCTION, 1u32, None),
+        (3, 2, REDUCTION, 1, Some((Rule::V8, 0u32))),
+        (0, 0, REDUCTION, 1, None),
+        (4, 2, PARALLEL, 1, Some((Rule::V6, 0))),
+        (4, 2, REDUCTION, 2, Some((Rule::V2, 0))),
     ] {
         assert_eq!(rt;
-            with_constant(alloc, cells, ty, Kind::Fill(1, 0))?,
-            expected
-        );
-    }
-    let no_axes = [].as_slice();
-    let one_axis = [(0i64, [(0u32, 1i64)].as_slice())];
-    for (selections, expected) in [
-        (no_axes, None),
-        (one_axis.as_slice(), Some((Rule::V5, 1u32))),
-    ] {
-        let loops = Loops {
-            dims: 1,
-            maps: &[selections, &[(0, &[(0, 1)])]],
-            iterators: &[PARALLEL],
-            index: None,
-        };
-        let kind = Kind::Generic(loops, &[32], &[1], 0);
-        assert_eq!(rt;
-            with_constant(alloc, &[7], Shape::Scalar(32), kind)?,
+            slide(rt.alloc(), from, kernel, 3, second, index)?,
             expected
         );
     }
     Ok(())
 }
 
-#[test]
-fn wants_constants(rt: HostRuntime) -> Result<(), Memory> {
-    let out = Shape::Tensor(&[3], 32);
-    let sketch = Sketch {
-        params: &[Shape::Scalar(32), out],
-        ops: &[(Kind::Fill(0, 1), Some(out)), (Kind::Return(&[2]), None)],
-        results: &[out],
-    };
-    assert_eq!(rt; answer(rt.alloc(), &sketch)?, Some((Rule::V2, 0)));
-    Ok(())
+/// A sum of 3x2 elements along the second axis, by maps of `dims` dimensions, with the output's result as told.
+fn sum(alloc: Global, dims: u32, second: i64, output: (i64, i64, i64)) -> Answer {
+    let mut maps = List::new(alloc);
+    maps.push(map(alloc, dims, &[(0, 1, 0), (0, 1 - second, second)])?)?;
+    maps.push(map(alloc, dims, &[output])?)?;
+    let kind = generic(alloc, maps, &[PARALLEL, REDUCTION], &[0], 2, 0)?;
+    let a = tensor(alloc, &[3, 2], 32)?;
+    let b = tensor(alloc, &[], 32)?;
+    single(alloc, kind, a, b, &[3], 32)
 }
 
 #[test]
 fn fits_maps_to_operands(rt: HostRuntime) -> Result<(), Memory> {
-    let alloc = rt.alloc();
-    let first = (0i64, [(0u32, 1i64)].as_slice());
-    let second = (0i64, [(1u32, 1i64)].as_slice());
-    for (dims, from, to, iterators, expected) in [
-        (
-            2u32,
-            [first, second].as_slice(),
-            [first].as_slice(),
-            [PARALLEL, REDUCTION].as_slice(),
-            None,
-        ),
-        (
-            3,
-            &[first, second],
-            &[first],
-            &[PARALLEL, REDUCTION],
-            Some((Rule::V5, 0u32)),
-        ),
-        (
-            2,
-            &[first],
-            &[first],
-            &[PARALLEL, REDUCTION],
-            Some((Rule::V5, 0)),
-        ),
-        (
-            2,
-            &[first, first],
-            &[first],
-            &[PARALLEL, REDUCTION],
-            Some((Rule::V5, 0)),
-        ),
-        (
-            2,
-            &[first, second],
-            &[(1, &[])],
-            &[REDUCTION, REDUCTION],
-            Some((Rule::V5, 0)),
-        ),
-        (
-            2,
-            &[first, second],
-            &[first],
-            &[PARALLEL, PARALLEL],
-            Some((Rule::V6, 0)),
-        ),
-        (
-            2,
-            &[first, second],
-            &[second],
-            &[REDUCTION, PARALLEL],
-            Some((Rule::V7, 0)),
-        ),
+    for (dims, second, output, expected) in [
+        (2u32, 1i64, (0i64, 1i64, 0i64), None),
+        (3, 1, (0, 1, 0), Some((Rule::V5, 0u32))),
+        (2, 0, (0, 1, 0), Some((Rule::V5, 0))),
+        (2, 1, (1, 1, 0), Some((Rule::V5, 0))),
+        (2, 1, (0, 0, 1), Some((Rule::V6, 0))),
     ] {
-        let loops = Loops {
-            dims,
-            maps: &[from, to],
-            iterators,
-            index: None,
-        };
-        assert_eq!(rt; generic(alloc, &[3, 2], &[3], &loops)?, expected);
+        assert_eq!(rt; sum(rt.alloc(), dims, second, output)?, expected);
     }
     Ok(())
+}
+
+/// The product of two tensors of these extents and widths, into 2x4 elements of `i32`.
+fn multiply(alloc: Global, a: [u32; 2], b: [u32; 2], left: u8, right: u8) -> Answer {
+    let kind = OpKind::Matmul {
+        a: ValueId(0),
+        b: ValueId(1),
+        outs: ValueId(2),
+    };
+    let a = tensor(alloc, &a, left)?;
+    let b = tensor(alloc, &b, right)?;
+    single(alloc, kind, a, b, &[2, 4], 32)
+}
+
+fn multiply_batches(alloc: Global, b: [u32; 3]) -> Answer {
+    let kind = OpKind::BatchMatmul {
+        a: ValueId(0),
+        b: ValueId(1),
+        outs: ValueId(2),
+    };
+    let a = tensor(alloc, &[5, 2, 3], 8)?;
+    let b = tensor(alloc, &b, 8)?;
+    single(alloc, kind, a, b, &[5, 2, 4], 32)
 }
 
 #[test]
-fn names_dimensions(rt: HostRuntime) -> Result<(), Memory> {
-    let alloc = rt.alloc();
-    for (index, bits, expected) in [
-        (None, 32u8, None),
-        (Some(0u32), 32, None),
-        (Some(1), 32, Some((Rule::V2, 0u32))),
-        (None, 16, Some((Rule::V2, 0))),
+fn multiplies(rt: HostRuntime) -> Result<(), Memory> {
+    for (a, b, left, right, expected) in [
+        ([2u32, 3u32], [3u32, 4u32], 8u8, 8u8, None),
+        ([2, 3], [2, 4], 8, 8, Some((Rule::V7, 0u32))),
+        ([2, 3], [3, 5], 8, 8, Some((Rule::V7, 0))),
+        ([2, 3], [3, 4], 64, 64, Some((Rule::V2, 0))),
+        ([2, 3], [3, 4], 8, 16, Some((Rule::V2, 0))),
     ] {
-        let out = Shape::Tensor(&[3], bits);
-        let loops = Loops {
-            dims: 1,
-            maps: &[&[(0, &[(0, 1)])]],
-            iterators: &[PARALLEL],
-            index,
-        };
-        let sketch = Sketch {
-            params: &[out],
-            ops: &[
-                (Kind::Generic(loops, &[], &[], 0), Some(out)),
-                (Kind::Return(&[1]), None),
-            ],
-            results: &[out],
-        };
-        assert_eq!(rt; answer(alloc, &sketch)?, expected);
+        assert_eq!(rt; multiply(rt.alloc(), a, b, left, right)?, expected);
+    }
+    for (b, expected) in [
+        ([5u32, 3u32, 4u32], None),
+        ([6, 3, 4], Some((Rule::V7, 0u32))),
+        ([5, 4, 3], Some((Rule::V7, 0))),
+    ] {
+        assert_eq!(rt; multiply_batches(rt.alloc(), b)?, expected);
     }
     Ok(())
 }
 
-/// An empty tensor that is returned.
-fn empty(alloc: Global, extents: &[u32]) -> Result<Option<(Rule, u32)>, Memory> {
-    let ty = Shape::Tensor(extents, 1);
-    let sketch = Sketch {
-        params: &[],
-        ops: &[
-            (Kind::Constant(&[0]), Some(Shape::Scalar(1))),
-            (Kind::Empty, Some(ty)),
-            (Kind::Return(&[1]), None),
-        ],
-        results: &[ty],
+fn transpose(alloc: Global, order: [u32; 3], out: [u32; 3]) -> Answer {
+    let kind = OpKind::Transpose {
+        source: ValueId(0),
+        outs: ValueId(2),
+        order: numbers(alloc, &order)?,
     };
-    let declared = answer(alloc, &sketch)?;
-    let dropped = Sketch {
-        ops: &[
-            (Kind::Constant(&[0]), Some(Shape::Scalar(1))),
-            (Kind::Empty, Some(ty)),
-            (Kind::Return(&[]), None),
-        ],
-        results: &[],
-        ..sketch
+    let a = tensor(alloc, &[2, 3, 4], 8)?;
+    let b = tensor(alloc, &[], 8)?;
+    single(alloc, kind, a, b, &out, 8)
+}
+
+/// Three elements into a tensor that has two axes more.
+fn broadcast(alloc: Global, dims: [u32; 2], out: [u32; 3]) -> Answer {
+    let kind = OpKind::Broadcast {
+        source: ValueId(0),
+        outs: ValueId(2),
+        dims: numbers(alloc, &dims)?,
     };
-    let used = answer(alloc, &dropped)?;
-    match (declared, used) {
-        (None, None) => Ok(None),
-        (Some((rule, 0)), Some((Rule::V14, 1))) => Ok(Some((rule, 0))),
-        _ => Err(Memory),
+    let a = tensor(alloc, &[3], 8)?;
+    let b = tensor(alloc, &[], 8)?;
+    single(alloc, kind, a, b, &out, 8)
+}
+
+#[test]
+fn moves_axes(rt: HostRuntime) -> Result<(), Memory> {
+    for (order, out, expected) in [
+        ([2u32, 0u32, 1u32], [4u32, 2u32, 3u32], None),
+        ([2, 0, 1], [4, 3, 2], Some((Rule::V7, 0u32))),
+        ([2, 0, 0], [4, 2, 2], Some((Rule::V2, 0))),
+        ([3, 0, 1], [4, 2, 3], Some((Rule::V2, 0))),
+    ] {
+        assert_eq!(rt; transpose(rt.alloc(), order, out)?, expected);
     }
+    for (dims, out, expected) in [
+        ([0u32, 2u32], [2u32, 3u32, 4u32], None),
+        ([1, 0], [2, 4, 3], None),
+        ([0, 1], [2, 3, 4], Some((Rule::V7, 0u32))),
+        ([0, 0], [2, 3, 4], Some((Rule::V2, 0))),
+        ([0, 3], [2, 3, 4], Some((Rule::V2, 0))),
+    ] {
+        assert_eq!(rt; broadcast(rt.alloc(), dims, out)?, expected);
+    }
+    Ok(())
+}
+
+/// Fills a tensor of `i32` with a constant of one cell.
+fn fill(alloc: Global, cell: u64, bits: u8) -> Answer {
+    let mut sketch = Sketch::new(alloc);
+    sketch.param(tensor(alloc, &[3], 32)?)?;
+    sketch.op(constant(alloc, &[cell])?, scalar(bits)?)?;
+    let kind = OpKind::Fill {
+        value: ValueId(1),
+        outs: ValueId(0),
+    };
+    sketch.op(kind, tensor(alloc, &[3], 32)?)?;
+    sketch.end(&[2])?;
+    sketch.result(tensor(alloc, &[3], 32)?)?;
+    sketch.answer()
+}
+
+/// A generic of one scalar input, with a map of `axes` results.
+fn spread(alloc: Global, is_constant: bool, axes: u32) -> Answer {
+    let mut sketch = Sketch::new(alloc);
+    if is_constant {
+        sketch.op(constant(alloc, &[7])?, scalar(32)?)?;
+    } else {
+        sketch.param(scalar(32)?)?;
+    }
+    sketch.op(
+        OpKind::Empty {
+            sizes: List::new(alloc),
+        },
+        tensor(alloc, &[3], 32)?,
+    )?;
+    let mut maps = List::new(alloc);
+    maps.push(select(alloc, 1, 0, axes)?)?;
+    maps.push(select(alloc, 1, 0, 1)?)?;
+    let kind = generic(alloc, maps, &[PARALLEL], &[0], 1, 0)?;
+    sketch.op(kind, tensor(alloc, &[3], 32)?)?;
+    sketch.end(&[2])?;
+    sketch.result(tensor(alloc, &[3], 32)?)?;
+    sketch.answer()
+}
+
+#[test]
+fn takes_scalar_constants(rt: HostRuntime) -> Result<(), Memory> {
+    for (cell, bits, expected) in [
+        (1u64 << 31, 32u8, None),
+        (1 << 32, 32, Some((Rule::V2, 0u32))),
+        (1, 8, Some((Rule::V2, 1))),
+    ] {
+        assert_eq!(rt; fill(rt.alloc(), cell, bits)?, expected);
+    }
+    for (is_constant, axes, expected) in [
+        (true, 0u32, None),
+        (true, 1, Some((Rule::V5, 2u32))),
+        (false, 0, Some((Rule::V4, 0))),
+    ] {
+        assert_eq!(rt; spread(rt.alloc(), is_constant, axes)?, expected);
+    }
+    Ok(())
+}
+
+/// A constant tensor of these cells, whose last extent is told.
+fn dense(alloc: Global, extent: u32, last: u32, cells: &[u64]) -> Answer {
+    let mut sketch = Sketch::new(alloc);
+    sketch.op(constant(alloc, cells)?, tensor(alloc, &[extent, last], 8)?)?;
+    sketch.end(&[])?;
+    sketch.answer()
+}
+
+#[test]
+fn counts_cells(rt: HostRuntime) -> Result<(), Memory> {
+    let alloc = rt.alloc();
+    assert_eq!(rt; dense(alloc, 2, 2, &[1, 2, 3, 255])?, None);
+    assert_eq!(rt; dense(alloc, 2, 2, &[1, 2, 3])?, Some((Rule::V2, 0)));
+    assert_eq!(rt; dense(alloc, 2, 2, &[1, 2, 3, 256])?, Some((Rule::V2, 0)));
+    assert_eq!(rt; dense(alloc, 5, 0, &[])?, None);
+    assert_eq!(rt; dense(alloc, u32::MAX, 0, &[])?, Some((Rule::V14, 0)));
+    assert_eq!(rt; dense(alloc, u32::MAX, u32::MAX, &[])?, Some((Rule::V2, 0)));
+    Ok(())
+}
+
+/// An empty tensor at operation 1, or a parameter.
+fn sized(alloc: Global, extents: &[u32], is_parameter: bool) -> Answer {
+    let mut sketch = Sketch::new(alloc);
+    if is_parameter {
+        sketch.param(tensor(alloc, extents, 1)?)?;
+        sketch.op(constant(alloc, &[0])?, scalar(1)?)?;
+    } else {
+        sketch.op(constant(alloc, &[0])?, scalar(1)?)?;
+        sketch.op(
+            OpKind::Empty {
+                sizes: List::new(alloc),
+            },
+            tensor(alloc, extents, 1)?,
+        )?;
+    }
+    sketch.end(&[])?;
+    sketch.answer()
+}
+
+/// A sum over 6 dimensions of one input and `rest` of another, into one element.
+fn reduce(alloc: Global, iterators: &[Iter], dims: u32, ones: &[u32]) -> Answer {
+    let mut maps = List::new(alloc);
+    maps.push(select(alloc, dims, 0, 6)?)?;
+    maps.push(select(alloc, dims, 6, dims)?)?;
+    maps.push(select(alloc, dims, 0, 0)?)?;
+    let kind = generic(alloc, maps, iterators, &[0, 1], 2, 0)?;
+    let a = tensor(alloc, &[1, 1, 1, 1, 1, 1], 32)?;
+    let b = tensor(alloc, ones, 32)?;
+    single(alloc, kind, a, b, &[], 32)
 }
 
 #[test]
 fn keeps_limits(rt: HostRuntime) -> Result<(), Memory> {
     let alloc = rt.alloc();
-    let past = Some((Rule::V14, 0u32));
-    for (extents, expected) in [
-        ([].as_slice(), None),
-        (&[1, 1, 1, 1, 1, 1, 1, 1], None),
-        (&[1, 1, 1, 1, 1, 1, 1, 1, 1], past),
-        (&[1_048_576], None),
-        (&[1_048_577], past),
-        (&[1_048_576, 4, 1], None),
-        (&[1_048_576, 4, 2], past),
-        (&[4_194_305, 0], past),
-        (&[1_048_576, 1_048_576, 0], None),
-    ] {
-        assert_eq!(rt; empty(alloc, extents)?, expected);
-    }
-    Ok(())
-}
-
-/// A reduction to one element, of six dimensions from one input and the rest from another.
-fn reduces(
-    alloc: Global,
-    dims: u32,
-    rest: &[Selection<'_>],
-    ones: &[u32],
-    iterators: &[Iter],
-) -> Result<Option<(Rule, u32)>, Memory> {
-    let out = Shape::Tensor(&[], 32);
-    let loops = Loops {
-        dims,
-        maps: &[
-            &[
-                (0, &[(0, 1)]),
-                (0, &[(1, 1)]),
-                (0, &[(2, 1)]),
-                (0, &[(3, 1)]),
-                (0, &[(4, 1)]),
-                (0, &[(5, 1)]),
-            ],
-            rest,
-            &[],
-        ],
-        iterators,
-        index: None,
-    };
-    let sketch = Sketch {
-        params: &[
-            Shape::Tensor(&[1, 1, 1, 1, 1, 1], 32),
-            Shape::Tensor(ones, 32),
-            out,
-        ],
-        ops: &[
-            (Kind::Generic(loops, &[32, 32], &[0, 1], 2), Some(out)),
-            (Kind::Return(&[3]), None),
-        ],
-        results: &[out],
-    };
-    answer(alloc, &sketch)
-}
-
-#[test]
-fn keeps_the_limit_on_loops(rt: HostRuntime) -> Result<(), Memory> {
-    let alloc = rt.alloc();
-    let rest = [
-        (0i64, [(6u32, 1i64)].as_slice()),
-        (0, &[(7, 1)]),
-        (0, &[(8, 1)]),
-        (0, &[(9, 1)]),
-        (0, &[(10, 1)]),
-        (0, &[(11, 1)]),
-        (0, &[(12, 1)]),
-    ];
-    let ones = [1u32; 7];
-    let iterators = [REDUCTION; 13];
+    let past = Some((Rule::V14, 1));
+    assert_eq!(rt; sized(alloc, &[], false)?, None);
+    assert_eq!(rt; sized(alloc, &[1, 1, 1, 1, 1, 1, 1, 1], false)?, None);
+    assert_eq!(rt; sized(alloc, &[1, 1, 1, 1, 1, 1, 1, 1, 1], false)?, past);
+    assert_eq!(rt; sized(alloc, &[1_048_576, 4], false)?, None);
+    assert_eq!(rt; sized(alloc, &[1_048_576, 5], false)?, past);
+    assert_eq!(rt; sized(alloc, &[1_048_577], false)?, past);
+    assert_eq!(rt; sized(alloc, &[1_048_577], true)?, Some((Rule::V14, 0)));
+    assert_eq!(rt; reduce(alloc, &[REDUCTION; 12], 12, &[1; 6])?, None);
     assert_eq!(rt;
-        reduces(alloc, 12, &rest[..6], &ones[..6], &iterators[..12])?,
-        None
-    );
-    assert_eq!(rt;
-        reduces(alloc, 13, &rest, &ones, &iterators)?,
+        reduce(alloc, &[REDUCTION; 13], 13, &[1; 7])?,
         Some((Rule::V14, 0))
     );
     Ok(())
 }
 
-#[test]
-fn returns_several_results(rt: HostRuntime) -> Result<(), Memory> {
-    let alloc = rt.alloc();
-    let short = Shape::Tensor(&[2], 8);
-    let long = Shape::Tensor(&[3], 8);
-    for (returned, expected) in [
-        ([1u32, 0u32].as_slice(), None),
-        (&[0, 1], Some((Rule::V7, 1u32))),
-        (&[1], Some((Rule::V2, 1))),
-        (&[1, 2], Some((Rule::V2, 1))),
-        (&[1, 3], Some((Rule::V1, 1))),
-    ] {
-        let sketch = Sketch {
-            params: &[short, long],
-            ops: &[
-                (Kind::Constant(&[0]), Some(Shape::Scalar(8))),
-                (Kind::Return(returned), None),
-            ],
-            results: &[long, short],
-        };
-        assert_eq!(rt; answer(alloc, &sketch)?, expected);
+/// A constant, and then the values returned, where results are of 3 and of 2 elements; parameter 0 has 2, and 1 has 3.
+fn returned(alloc: Global, values: &[u32]) -> Answer {
+    let mut sketch = Sketch::new(alloc);
+    sketch.param(tensor(alloc, &[2], 8)?)?;
+    sketch.param(tensor(alloc, &[3], 8)?)?;
+    sketch.op(constant(alloc, &[0])?, scalar(8)?)?;
+    sketch.end(values)?;
+    sketch.result(tensor(alloc, &[3], 8)?)?;
+    sketch.result(tensor(alloc, &[2], 8)?)?;
+    sketch.answer()
+}
+
+/// An operation without a result, behind a constant and perhaps before a `return`.
+fn misplaced(alloc: Global, kind: OpKind, ends: bool) -> Answer {
+    let mut sketch = Sketch::new(alloc);
+    sketch.op(constant(alloc, &[0])?, scalar(8)?)?;
+    sketch.push(kind, List::new(alloc))?;
+    if ends {
+        sketch.end(&[])?;
     }
-    Ok(())
+    sketch.answer()
 }
 
 #[test]
-fn names_the_first_operation(rt: HostRuntime) -> Result<(), Memory> {
+fn returns_at_the_end(rt: HostRuntime) -> Result<(), Memory> {
     let alloc = rt.alloc();
-    let ty = Shape::Tensor(&[3], 8);
-    let good = Sketch {
-        params: &[ty],
-        ops: &[(Kind::Return(&[0]), None)],
-        results: &[ty],
+    assert_eq!(rt; returned(alloc, &[1, 0])?, None);
+    assert_eq!(rt; returned(alloc, &[0, 1])?, Some((Rule::V7, 1)));
+    assert_eq!(rt; returned(alloc, &[1])?, Some((Rule::V2, 1)));
+    assert_eq!(rt; returned(alloc, &[1, 2])?, Some((Rule::V2, 1)));
+    assert_eq!(rt; returned(alloc, &[1, 3])?, Some((Rule::V1, 1)));
+    let early = OpKind::Return {
+        values: List::new(alloc),
     };
-    // The second function's parameter is value 1 and its first operation number 1.
-    for (params, ops, expected) in [
-        (
-            [ty].as_slice(),
-            [(Kind::Return(&[1]), None)].as_slice(),
-            None,
-        ),
-        (&[ty], &[(Kind::Return(&[0]), None)], Some((Rule::V1, 1u32))),
-        (
-            &[ty],
-            &[(Kind::Empty, Some(ty)), (Kind::Yield, None)],
-            Some((Rule::V2, 2)),
-        ),
-        (
-            &[ty],
-            &[(Kind::Empty, Some(ty)), (Kind::Empty, Some(ty))],
-            Some((Rule::V3, 2)),
-        ),
-        (
-            &[ty],
-            &[(Kind::Return(&[1]), None), (Kind::Return(&[1]), None)],
-            Some((Rule::V3, 1)),
-        ),
-        (
-            &[ty, Shape::Scalar(8)],
-            &[(Kind::Return(&[1]), None)],
-            Some((Rule::V4, 1)),
-        ),
-        (
-            &[ty],
-            &[
-                (Kind::Empty, Some(Shape::Scalar(8))),
-                (Kind::Return(&[1]), None),
-            ],
-            Some((Rule::V2, 1)),
-        ),
-    ] {
-        let second = Sketch {
-            params,
-            ops,
-            results: &[ty],
-        };
-        assert_eq!(rt;
-            broken(alloc, two_functions(alloc, &good, &second)?)?,
-            expected
-        );
-    }
+    assert_eq!(rt; misplaced(alloc, early, true)?, Some((Rule::V3, 1)));
+    let unbuilt = OpKind::Yield {
+        values: List::new(alloc),
+    };
+    assert_eq!(rt; misplaced(alloc, unbuilt, true)?, Some((Rule::V2, 1)));
     Ok(())
 }

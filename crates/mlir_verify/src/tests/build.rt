@@ -1,70 +1,28 @@
-//! Modules from short descriptions. Values and operations are numbered in order, parameters first.
+//! Modules of one function. Values and operations are numbered in order, parameters first.
 
+use crate::{Refused, Rule, verify};
 use affine_maps::{AffineMap, Expr};
 use mlir_ir::{Extent, Func, Iter, Module, Op, OpId, OpKind, Ty, ValueId};
 use payload_ops::{Arg, ElemTy, List, Memory, Name, Payload, PayloadStep, StepOp, Width, payload};
 use std::alloc::Global;
 
-#[derive(Clone, Copy)]
-pub enum Shape<'a> {
-    Scalar(u8),
-    Tensor(&'a [u32], u8),
-}
-
-/// A map's result: its constant and its terms.
-pub type Selection<'a> = (i64, &'a [(u32, i64)]);
-
-/// The loops of a generic: the number of dimensions of its maps, the maps, the iterators, and the dimension that its
-/// payload names, if any.
-#[derive(Clone, Copy)]
-pub struct Loops<'a> {
-    pub dims: u32,
-    pub maps: &'a [&'a [Selection<'a>]],
-    pub iterators: &'a [Iter],
-    pub index: Option<u32>,
-}
-
-#[derive(Clone, Copy)]
-pub enum Kind<'a> {
-    Constant(&'a [u64]),
-    Empty,
-    /// Loops, the widths of the inputs, the inputs, and the output, of `i32`.
-    Generic(Loops<'a>, &'a [u8], &'a [u32], u32),
-    Fill(u32, u32),
-    Matmul(u32, u32, u32),
-    BatchMatmul(u32, u32, u32),
-    Transpose(u32, u32, &'a [u32]),
-    Broadcast(u32, u32, &'a [u32]),
-    Yield,
-    Return(&'a [u32]),
-}
-
-/// A function: the types of its parameters, its operations with the types of their results, and the types of its results.
-#[derive(Clone, Copy)]
-pub struct Sketch<'a> {
-    pub params: &'a [Shape<'a>],
-    pub ops: &'a [(Kind<'a>, Option<Shape<'a>>)],
-    pub results: &'a [Shape<'a>],
-}
-
 fn width(bits: u8) -> Result<Width, Memory> {
     Width::new(bits).ok_or(Memory)
 }
 
-fn ty(alloc: Global, shape: &Shape<'_>) -> Result<Ty, Memory> {
-    match shape {
-        Shape::Scalar(bits) => Ok(Ty::Scalar(ElemTy::Int(width(*bits)?))),
-        Shape::Tensor(sizes, bits) => {
-            let mut extents = List::new(alloc);
-            for n in *sizes {
-                extents.push(Extent::Fixed(*n))?;
-            }
-            Ok(Ty::Tensor {
-                extents,
-                elem: width(*bits)?,
-            })
-        }
+pub fn scalar(bits: u8) -> Result<Ty, Memory> {
+    Ok(Ty::Scalar(ElemTy::Int(width(bits)?)))
+}
+
+pub fn tensor(alloc: Global, sizes: &[u32], bits: u8) -> Result<Ty, Memory> {
+    let mut extents = List::new(alloc);
+    for n in sizes {
+        extents.push(Extent::Fixed(*n))?;
     }
+    Ok(Ty::Tensor {
+        extents,
+        elem: width(bits)?,
+    })
 }
 
 fn values(alloc: Global, numbers: &[u32]) -> Result<List<ValueId>, Memory> {
@@ -75,80 +33,186 @@ fn values(alloc: Global, numbers: &[u32]) -> Result<List<ValueId>, Memory> {
     Ok(all)
 }
 
-fn numbers(alloc: Global, from: &[u32]) -> Result<List<u32>, Memory> {
-    let mut all = List::new(alloc);
-    for n in from {
-        all.push(*n)?;
-    }
-    Ok(all)
+/// A function that grows from its parameters on.
+#[derive(Drop)]
+pub struct Sketch {
+    alloc: Global,
+    next_value: u32,
+    next_op: u32,
+    params: List<(ValueId, Ty)>,
+    ops: List<Op>,
+    results: List<Ty>,
 }
 
-fn expr(alloc: Global, selection: &Selection<'_>) -> Result<Expr, Memory> {
-    let mut terms = List::new(alloc);
-    for term in selection.1 {
-        terms.push(*term)?;
+impl Sketch {
+    pub fn new(alloc: Global) -> Sketch {
+        Sketch {
+            alloc,
+            next_value: 0,
+            next_op: 0,
+            params: List::new(alloc),
+            ops: List::new(alloc),
+            results: List::new(alloc),
+        }
     }
-    Ok(Expr {
-        constant: selection.0,
-        terms,
-    })
+
+    fn fresh(&mut self) -> ValueId {
+        let n = self.next_value;
+        self.next_value = n.saturating_add(1);
+        ValueId(n)
+    }
+
+    pub fn param(&mut self, ty: Ty) -> Result<(), Memory> {
+        let v = self.fresh();
+        self.params.push((v, ty))
+    }
+
+    pub fn result(&mut self, ty: Ty) -> Result<(), Memory> {
+        self.results.push(ty)
+    }
+
+    pub fn op(&mut self, kind: OpKind, ty: Ty) -> Result<(), Memory> {
+        let mut results = List::new(self.alloc);
+        let v = self.fresh();
+        results.push((v, ty))?;
+        self.push(kind, results)
+    }
+
+    pub fn push(&mut self, kind: OpKind, results: List<(ValueId, Ty)>) -> Result<(), Memory> {
+        let id = OpId(self.next_op);
+        self.next_op = self.next_op.saturating_add(1);
+        self.ops.push(Op { id, results, kind })
+    }
+
+    pub fn end(&mut self, returned: &[u32]) -> Result<(), Memory> {
+        let kind = OpKind::Return {
+            values: values(self.alloc, returned)?,
+        };
+        self.push(kind, List::new(self.alloc))
+    }
+
+    pub fn module(self) -> Result<Module, Memory> {
+        let Sketch {
+            alloc,
+            next_value: _,
+            next_op: _,
+            params,
+            ops,
+            results,
+        } = self;
+        let name = Name::new(alloc, "f")?;
+        let mut funcs = List::new(alloc);
+        if ops.as_slice().len() > 0 {
+            funcs.push(Func {
+                name,
+                params,
+                results,
+                body: ops,
+            })?;
+        }
+        Ok(Module { funcs })
+    }
+
+    /// The rule that the module breaks and the number of the operation, or none.
+    pub fn answer(self) -> Result<Option<(Rule, u32)>, Memory> {
+        let alloc = self.alloc;
+        match verify(alloc, self.module()?) {
+            Ok(_) => Ok(None),
+            Err(Refused::Rule { rule, op }) => Ok(Some((rule, op.0))),
+            Err(Refused::Memory) => Err(Memory),
+        }
+    }
 }
 
-fn map(alloc: Global, dims: u32, selections: &[Selection<'_>]) -> Result<AffineMap, Memory> {
+/// An operation on parameters, whose result has the type of the last one and is returned.
+pub fn single(
+    alloc: Global,
+    kind: OpKind,
+    a: Ty,
+    b: Ty,
+    out: &[u32],
+    bits: u8,
+) -> Result<Option<(Rule, u32)>, Memory> {
+    let mut sketch = Sketch::new(alloc);
+    sketch.param(a)?;
+    sketch.param(b)?;
+    sketch.param(tensor(alloc, out, bits)?)?;
+    sketch.op(kind, tensor(alloc, out, bits)?)?;
+    sketch.end(&[3])?;
+    sketch.result(tensor(alloc, out, bits)?)?;
+    sketch.answer()
+}
+
+/// A map over two dimensions or more, of a constant and the coefficients of the first two for each result.
+pub fn map(alloc: Global, dims: u32, rows: &[(i64, i64, i64)]) -> Result<AffineMap, Memory> {
     let mut results = List::new(alloc);
-    for selection in selections {
-        results.push(expr(alloc, selection)?)?;
+    for (constant, first, second) in rows {
+        let mut terms = List::new(alloc);
+        if *first != 0 {
+            terms.push((0u32, *first))?;
+        }
+        if *second != 0 {
+            terms.push((1u32, *second))?;
+        }
+        results.push(Expr {
+            constant: *constant,
+            terms,
+        })?;
     }
     AffineMap::new(dims, results).ok_or(Memory)
 }
 
-/// Yields the first input, or the output's element where there is none.
-fn yields(alloc: Global, widths: &[u8], index: Option<u32>) -> Result<Payload, Memory> {
-    let mut ins = List::new(alloc);
-    for bits in widths {
-        ins.push(ElemTy::Int(width(*bits)?))?;
+/// (d0, ..) -> the dimensions from `low` up to `high`
+pub fn select(alloc: Global, dims: u32, low: u32, high: u32) -> Result<AffineMap, Memory> {
+    let mut results = List::new(alloc);
+    for d in low..high {
+        let mut terms = List::new(alloc);
+        terms.push((d, 1i64))?;
+        results.push(Expr { constant: 0, terms })?;
     }
-    let mut steps = List::new(alloc);
-    if let Some(d) = index {
-        steps.push(PayloadStep {
-            ty: ElemTy::Index,
-            op: StepOp::Index(d),
-        })?;
-    }
-    let yielded = if widths.is_empty() {
-        Arg::Out
-    } else {
-        Arg::Input(0)
-    };
-    payload(ins, ElemTy::Int(width(32)?), steps, yielded).ok_or(Memory)
+    AffineMap::new(dims, results).ok_or(Memory)
 }
 
-fn generic(
+/// Yields the first input, or the output's element where there is none, and looks at dimension `index`.
+fn yields(alloc: Global, inputs: usize, index: u32) -> Result<Payload, Memory> {
+    let elem = ElemTy::Int(width(32)?);
+    let mut ins = List::new(alloc);
+    for _ in 0..inputs {
+        ins.push(elem)?;
+    }
+    let mut steps = List::new(alloc);
+    steps.push(PayloadStep {
+        ty: ElemTy::Index,
+        op: StepOp::Index(index),
+    })?;
+    let yielded = if inputs == 0 { Arg::Out } else { Arg::Input(0) };
+    payload(ins, elem, steps, yielded).ok_or(Memory)
+}
+
+/// A generic on values of `i32`, with a dimension for each iterator.
+pub fn generic(
     alloc: Global,
-    loops: &Loops<'_>,
-    widths: &[u8],
+    maps: List<AffineMap>,
+    iterators: &[Iter],
     ins: &[u32],
     outs: u32,
+    index: u32,
 ) -> Result<OpKind, Memory> {
-    let mut maps = List::new(alloc);
-    for selections in loops.maps {
-        maps.push(map(alloc, loops.dims, selections)?)?;
-    }
-    let mut iterators = List::new(alloc);
-    for iterator in loops.iterators {
-        iterators.push(*iterator)?;
+    let mut kinds = List::new(alloc);
+    for iterator in iterators {
+        kinds.push(*iterator)?;
     }
     Ok(OpKind::Generic {
         maps,
-        iterators,
+        iterators: kinds,
         ins: values(alloc, ins)?,
         outs: ValueId(outs),
         captured: List::new(alloc),
-        payload: yields(alloc, widths, loops.index)?,
+        payload: yields(alloc, ins.len(), index)?,
     })
 }
 
-fn constant(alloc: Global, cells: &[u64]) -> Result<OpKind, Memory> {
+pub fn constant(alloc: Global, cells: &[u64]) -> Result<OpKind, Memory> {
     let mut value = List::new(alloc);
     for cell in cells {
         value.push(*cell)?;
@@ -156,135 +220,10 @@ fn constant(alloc: Global, cells: &[u64]) -> Result<OpKind, Memory> {
     Ok(OpKind::Constant { value })
 }
 
-fn operation(alloc: Global, from: &Kind<'_>) -> Result<OpKind, Memory> {
-    match from {
-        Kind::Constant(cells) => constant(alloc, cells),
-        Kind::Empty => Ok(OpKind::Empty {
-            sizes: List::new(alloc),
-        }),
-        Kind::Generic(loops, widths, ins, outs) => generic(alloc, loops, widths, ins, *outs),
-        Kind::Fill(value, outs) => Ok(OpKind::Fill {
-            value: ValueId(*value),
-            outs: ValueId(*outs),
-        }),
-        Kind::Matmul(a, b, outs) => Ok(OpKind::Matmul {
-            a: ValueId(*a),
-            b: ValueId(*b),
-            outs: ValueId(*outs),
-        }),
-        Kind::BatchMatmul(a, b, outs) => Ok(OpKind::BatchMatmul {
-            a: ValueId(*a),
-            b: ValueId(*b),
-            outs: ValueId(*outs),
-        }),
-        Kind::Transpose(source, outs, order) => transpose(alloc, *source, *outs, order),
-        Kind::Broadcast(source, outs, dims) => broadcast(alloc, *source, *outs, dims),
-        Kind::Yield => Ok(OpKind::Yield {
-            values: List::new(alloc),
-        }),
-        Kind::Return(returned) => returns(alloc, returned),
+pub fn numbers(alloc: Global, from: &[u32]) -> Result<List<u32>, Memory> {
+    let mut all = List::new(alloc);
+    for n in from {
+        all.push(*n)?;
     }
-}
-
-fn transpose(alloc: Global, source: u32, outs: u32, order: &[u32]) -> Result<OpKind, Memory> {
-    Ok(OpKind::Transpose {
-        source: ValueId(source),
-        outs: ValueId(outs),
-        order: numbers(alloc, order)?,
-    })
-}
-
-fn broadcast(alloc: Global, source: u32, outs: u32, dims: &[u32]) -> Result<OpKind, Memory> {
-    Ok(OpKind::Broadcast {
-        source: ValueId(source),
-        outs: ValueId(outs),
-        dims: numbers(alloc, dims)?,
-    })
-}
-
-fn returns(alloc: Global, returned: &[u32]) -> Result<OpKind, Memory> {
-    Ok(OpKind::Return {
-        values: values(alloc, returned)?,
-    })
-}
-
-/// The next numbers of values and operations.
-#[derive(Drop)]
-struct Next {
-    value: u32,
-    op: u32,
-}
-
-fn define(
-    alloc: Global,
-    into: &mut List<(ValueId, Ty)>,
-    next: &mut Next,
-    shape: &Shape<'_>,
-) -> Result<(), Memory> {
-    into.push((ValueId(next.value), ty(alloc, shape)?))?;
-    next.value = next.value.saturating_add(1);
-    Ok(())
-}
-
-fn body(alloc: Global, next: &mut Next, sketch: &Sketch<'_>) -> Result<List<Op>, Memory> {
-    let mut ops = List::new(alloc);
-    for (from, result) in sketch.ops {
-        let mut results = List::new(alloc);
-        if let Some(shape) = result {
-            define(alloc, &mut results, next, shape)?;
-        }
-        ops.push(Op {
-            id: OpId(next.op),
-            results,
-            kind: operation(alloc, from)?,
-        })?;
-        next.op = next.op.saturating_add(1);
-    }
-    Ok(ops)
-}
-
-fn push_func(
-    alloc: Global,
-    funcs: &mut List<Func>,
-    next: &mut Next,
-    sketch: &Sketch<'_>,
-) -> Result<(), Memory> {
-    let mut params = List::new(alloc);
-    for shape in sketch.params {
-        define(alloc, &mut params, next, shape)?;
-    }
-    let mut results = List::new(alloc);
-    for shape in sketch.results {
-        results.push(ty(alloc, shape)?)?;
-    }
-    let name = Name::new(alloc, "f")?;
-    let body = body(alloc, next, sketch)?;
-    if body.as_slice().len() > 0 {
-        funcs.push(Func {
-            name,
-            params,
-            results,
-            body,
-        })?;
-    }
-    Ok(())
-}
-
-pub fn module(alloc: Global, sketch: &Sketch<'_>) -> Result<Module, Memory> {
-    let mut funcs = List::new(alloc);
-    let mut next = Next { value: 0, op: 0 };
-    push_func(alloc, &mut funcs, &mut next, sketch)?;
-    Ok(Module { funcs })
-}
-
-pub fn two_functions(
-    alloc: Global,
-    first: &Sketch<'_>,
-    second: &Sketch<'_>,
-) -> Result<Module, Memory> {
-    let mut funcs = List::new(alloc);
-    let mut next = Next { value: 0, op: 0 };
-    push_func(alloc, &mut funcs, &mut next, first)?;
-    push_func(alloc, &mut funcs, &mut next, second)?;
-    Ok(Module { funcs })
+    Ok(all)
 }
