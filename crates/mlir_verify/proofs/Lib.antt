@@ -1,6 +1,4 @@
 pub mod Walks
-pub mod Elements
-pub mod Broadcasts
 pub mod Adding
 pub mod Lowest
 pub mod Scopes

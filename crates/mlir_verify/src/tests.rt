@@ -1,27 +1,169 @@
-//! Small modules, and the rule that each breaks first.
+//! One module, and changes to it that each break one rule.
 
-mod build;
-
-use crate::{Rule, verify};
-use build::{Sketch, constant, generic, map, numbers, scalar, select, single, tensor};
-use mlir_ir::{Iter, OpKind, ValueId};
-use payload_ops::{List, Memory};
+use crate::{Refused, Rule, verify};
+use affine_maps::{AffineMap, Expr};
+use mlir_ir::{Extent, Func, Iter, Module, Op, OpId, OpKind, Ty, ValueId};
+use payload_ops::{
+    Arg, BinOp, ElemTy, List, Memory, Name, Payload, PayloadStep, StepOp, Width, payload,
+};
 use std::alloc::Global;
 
-type Answer = Result<Option<(Rule, u32)>, Memory>;
+/// What changes from row to row: `@add` of two tensors of three elements, into an empty tensor.
+#[derive(Clone, Copy)]
+struct Row {
+    second_extent: u32,
+    second_value: u32,
+    dims: u32,
+    maps: u32,
+    iterator: Iter,
+    result_extent: u32,
+    result_bits: u8,
+    returned: u32,
+    declared_scalar: bool,
+    declared_extent: u32,
+    ends: bool,
+}
 
-const PARALLEL: Iter = Iter::Parallel;
+const SAMPLE: Row = Row {
+    second_extent: 3,
+    second_value: 1,
+    dims: 1,
+    maps: 3,
+    iterator: Iter::Parallel,
+    result_extent: 3,
+    result_bits: 32,
+    returned: 3,
+    declared_scalar: false,
+    declared_extent: 3,
+    ends: true,
+};
 
-const REDUCTION: Iter = Iter::Reduction;
+fn width(bits: u8) -> Result<Width, Memory> {
+    Width::new(bits).ok_or(Memory)
+}
+
+fn tensor(alloc: Global, extent: u32, bits: u8) -> Result<Ty, Memory> {
+    let mut extents = List::new(alloc);
+    extents.push(Extent::Fixed(extent))?;
+    Ok(Ty::Tensor {
+        extents,
+        elem: width(bits)?,
+    })
+}
+
+fn value(alloc: Global, n: u32, extent: u32, bits: u8) -> Result<List<(ValueId, Ty)>, Memory> {
+    let mut values = List::new(alloc);
+    values.push((ValueId(n), tensor(alloc, extent, bits)?))?;
+    Ok(values)
+}
+
+/// `(d0, ..) -> (d0)`
+fn first_dimension(alloc: Global, dims: u32) -> Result<AffineMap, Memory> {
+    let mut terms = List::new(alloc);
+    terms.push((0, 1))?;
+    let mut results = List::new(alloc);
+    results.push(Expr { constant: 0, terms })?;
+    AffineMap::new(dims, results).ok_or(Memory)
+}
+
+fn sum(alloc: Global) -> Result<Payload, Memory> {
+    let elem = ElemTy::Int(width(32)?);
+    let mut ins = List::new(alloc);
+    ins.push(elem)?;
+    ins.push(elem)?;
+    let mut steps = List::new(alloc);
+    steps.push(PayloadStep {
+        ty: elem,
+        op: StepOp::Binary(BinOp::Addi, Arg::Input(0), Arg::Input(1)),
+    })?;
+    payload(ins, elem, steps, Arg::Step(0)).ok_or(Memory)
+}
+
+fn addition(alloc: Global, row: &Row) -> Result<OpKind, Memory> {
+    let mut maps = List::new(alloc);
+    for _ in 0..row.maps {
+        maps.push(first_dimension(alloc, row.dims)?)?;
+    }
+    let mut iterators = List::new(alloc);
+    iterators.push(row.iterator)?;
+    let mut ins = List::new(alloc);
+    ins.push(ValueId(0))?;
+    ins.push(ValueId(1))?;
+    Ok(OpKind::Generic {
+        maps,
+        iterators,
+        ins,
+        outs: ValueId(2),
+        captured: List::new(alloc),
+        payload: sum(alloc)?,
+    })
+}
+
+fn body(alloc: Global, row: &Row) -> Result<List<Op>, Memory> {
+    let mut ops = List::new(alloc);
+    ops.push(Op {
+        id: OpId(0),
+        results: value(alloc, 2, 3, 32)?,
+        kind: OpKind::Empty {
+            sizes: List::new(alloc),
+        },
+    })?;
+    ops.push(Op {
+        id: OpId(1),
+        results: value(alloc, 3, row.result_extent, row.result_bits)?,
+        kind: addition(alloc, row)?,
+    })?;
+    if row.ends {
+        let mut values = List::new(alloc);
+        values.push(ValueId(row.returned))?;
+        ops.push(Op {
+            id: OpId(2),
+            results: List::new(alloc),
+            kind: OpKind::Return { values },
+        })?;
+    }
+    Ok(ops)
+}
+
+fn module(alloc: Global, row: &Row) -> Result<Module, Memory> {
+    let mut params = value(alloc, 0, 3, 32)?;
+    params.push((
+        ValueId(row.second_value),
+        tensor(alloc, row.second_extent, 32)?,
+    ))?;
+    let mut results = List::new(alloc);
+    if row.declared_scalar {
+        results.push(Ty::Scalar(ElemTy::Index))?;
+    } else {
+        results.push(tensor(alloc, row.declared_extent, 32)?)?;
+    }
+    let name = Name::new(alloc, "add")?;
+    let body = body(alloc, row)?;
+    let mut funcs = List::new(alloc);
+    if body.as_slice().len() > 0 {
+        funcs.push(Func {
+            name,
+            params,
+            results,
+            body,
+        })?;
+    }
+    Ok(Module { funcs })
+}
+
+/// The rule that a row breaks and the number of the operation, or none.
+fn refusal(alloc: Global, row: &Row) -> Result<Option<(Rule, u32)>, Memory> {
+    match verify(alloc, module(alloc, row)?) {
+        Ok(_) => Ok(None),
+        Err(Refused::Rule { rule, op }) => Ok(Some((rule, op.0))),
+        Err(Refused::Memory) => Err(Memory),
+    }
+}
 
 #[test]
-fn gives_the_module_back(rt: HostRuntime) -> Result<(), Memory> {
-    let alloc = rt.alloc();
-    let mut sketch = Sketch::new(alloc);
-    sketch.param(tensor(alloc, &[3], 8)?)?;
-    sketch.result(tensor(alloc, &[3], 8)?)?;
-    sketch.end(&[0])?;
-    match verify(alloc, sketch.module()?) {
+fn accepts_the_sample(rt: HostRuntime) -> Result<(), Memory> {
+    let m = module(rt.alloc(), &SAMPLE)?;
+    match verify(rt.alloc(), m) {
         Ok(c) => {
             assert_eq!(rt; c.module().funcs.as_slice().len(), 1);
             assert_eq!(rt; c.into_module().funcs.as_slice().len(), 1);
@@ -31,346 +173,86 @@ fn gives_the_module_back(rt: HostRuntime) -> Result<(), Memory> {
     }
 }
 
-/// Reads `from` elements at `constant + coefficient * d0`, into `to` elements.
-fn window(alloc: Global, from: u32, to: u32, constant: i64, coefficient: i64) -> Answer {
-    let mut maps = List::new(alloc);
-    maps.push(map(alloc, 1, &[(constant, coefficient, 0)])?)?;
-    maps.push(map(alloc, 1, &[(0, 1, 0)])?)?;
-    let kind = generic(alloc, maps, &[PARALLEL], &[0], 2, 0)?;
-    let a = tensor(alloc, &[from], 32)?;
-    let b = tensor(alloc, &[], 32)?;
-    single(alloc, kind, a, b, &[to], 32)
-}
-
 #[test]
-fn reads_inside_the_input(rt: HostRuntime) -> Result<(), Memory> {
-    for (from, to, constant, coefficient, expected) in [
-        (3u32, 2u32, 1i64, 1i64, None),
-        (2, 2, 1, 1, Some((Rule::V8, 0u32))),
-        (5, 3, 0, 2, None),
-        (4, 3, 0, 2, Some((Rule::V8, 0))),
-        (0, 0, 1, 1, None),
-        (u32::MAX, u32::MAX, 0, 1 << 31, Some((Rule::V8, 0))),
-        (2, 2, -1, 1, Some((Rule::V5, 0))),
-        (2, 3, 0, 1, Some((Rule::V7, 0))),
-    ] {
-        assert_eq!(rt;
-            window(rt.alloc(), from, to, constant, coefficient)?,
-            expected
-        );
-    }
-    Ok(())
-}
-
-/// A window `(d0 + d1)` over `from` elements, with a kernel of `kernel`, into `to`; the payload looks at dimension `index`.
-fn slide(alloc: Global, from: u32, kernel: u32, to: u32, second: Iter, index: u32) -> Answer {
-    let mut maps = List::new(alloc);
-    maps.push(map(alloc, 2, &[(0, 1, 1)])?)?;
-    maps.push(map(alloc, 2, &[(0, 0, 1)])?)?;
-    maps.push(map(alloc, 2, &[(0, 1, 0)])?)?;
-    let kind = generic(alloc, maps, &[PARALLEL, second], &[0, 1], 2, index)?;
-    let a = tensor(alloc, &[from], 32)?;
-    let b = tensor(alloc, &[kernel], 32)?;
-    single(alloc, kind, a, b, &[to], 32)
-}
-
-#[test]
-fn slides_windows(rt: HostRuntime) -> Result<(), Memory> {
-    for (from, kernel, second, index, expected) in [
-        (4u32, 2u32, REDUCTION, 1u32, None),
-        (3, 2, REDUCTION, 1, Some((Rule::V8, 0u32))),
-        (0, 0, REDUCTION, 1, None),
-        (4, 2, PARALLEL, 1, Some((Rule::V6, 0))),
-        (4, 2, REDUCTION, 2, Some((Rule::V2, 0))),
-    ] {
-        assert_eq!(rt;
-            slide(rt.alloc(), from, kernel, 3, second, index)?,
-            expected
-        );
-    }
-    Ok(())
-}
-
-/// A sum of 3x2 elements along the second axis, by maps of `dims` dimensions, with the output's result as told.
-fn sum(alloc: Global, dims: u32, second: i64, output: (i64, i64, i64)) -> Answer {
-    let mut maps = List::new(alloc);
-    maps.push(map(alloc, dims, &[(0, 1, 0), (0, 1 - second, second)])?)?;
-    maps.push(map(alloc, dims, &[output])?)?;
-    let kind = generic(alloc, maps, &[PARALLEL, REDUCTION], &[0], 2, 0)?;
-    let a = tensor(alloc, &[3, 2], 32)?;
-    let b = tensor(alloc, &[], 32)?;
-    single(alloc, kind, a, b, &[3], 32)
-}
-
-#[test]
-fn fits_maps_to_operands(rt: HostRuntime) -> Result<(), Memory> {
-    for (dims, second, output, expected) in [
-        (2u32, 1i64, (0i64, 1i64, 0i64), None),
-        (3, 1, (0, 1, 0), Some((Rule::V5, 0u32))),
-        (2, 0, (0, 1, 0), Some((Rule::V5, 0))),
-        (2, 1, (1, 1, 0), Some((Rule::V5, 0))),
-        (2, 1, (0, 0, 1), Some((Rule::V6, 0))),
-    ] {
-        assert_eq!(rt; sum(rt.alloc(), dims, second, output)?, expected);
-    }
-    Ok(())
-}
-
-/// The product of two tensors of these extents and widths, into 2x4 elements of `i32`.
-fn multiply(alloc: Global, a: [u32; 2], b: [u32; 2], left: u8, right: u8) -> Answer {
-    let kind = OpKind::Matmul {
-        a: ValueId(0),
-        b: ValueId(1),
-        outs: ValueId(2),
-    };
-    let a = tensor(alloc, &a, left)?;
-    let b = tensor(alloc, &b, right)?;
-    single(alloc, kind, a, b, &[2, 4], 32)
-}
-
-fn multiply_batches(alloc: Global, b: [u32; 3]) -> Answer {
-    let kind = OpKind::BatchMatmul {
-        a: ValueId(0),
-        b: ValueId(1),
-        outs: ValueId(2),
-    };
-    let a = tensor(alloc, &[5, 2, 3], 8)?;
-    let b = tensor(alloc, &b, 8)?;
-    single(alloc, kind, a, b, &[5, 2, 4], 32)
-}
-
-#[test]
-fn multiplies(rt: HostRuntime) -> Result<(), Memory> {
-    for (a, b, left, right, expected) in [
-        ([2u32, 3u32], [3u32, 4u32], 8u8, 8u8, None),
-        ([2, 3], [2, 4], 8, 8, Some((Rule::V7, 0u32))),
-        ([2, 3], [3, 5], 8, 8, Some((Rule::V7, 0))),
-        ([2, 3], [3, 4], 64, 64, Some((Rule::V2, 0))),
-        ([2, 3], [3, 4], 8, 16, Some((Rule::V2, 0))),
-    ] {
-        assert_eq!(rt; multiply(rt.alloc(), a, b, left, right)?, expected);
-    }
-    for (b, expected) in [
-        ([5u32, 3u32, 4u32], None),
-        ([6, 3, 4], Some((Rule::V7, 0u32))),
-        ([5, 4, 3], Some((Rule::V7, 0))),
-    ] {
-        assert_eq!(rt; multiply_batches(rt.alloc(), b)?, expected);
-    }
-    Ok(())
-}
-
-fn transpose(alloc: Global, order: [u32; 3], out: [u32; 3]) -> Answer {
-    let kind = OpKind::Transpose {
-        source: ValueId(0),
-        outs: ValueId(2),
-        order: numbers(alloc, &order)?,
-    };
-    let a = tensor(alloc, &[2, 3, 4], 8)?;
-    let b = tensor(alloc, &[], 8)?;
-    single(alloc, kind, a, b, &out, 8)
-}
-
-/// Three elements into a tensor that has two axes more.
-fn broadcast(alloc: Global, dims: [u32; 2], out: [u32; 3]) -> Answer {
-    let kind = OpKind::Broadcast {
-        source: ValueId(0),
-        outs: ValueId(2),
-        dims: numbers(alloc, &dims)?,
-    };
-    let a = tensor(alloc, &[3], 8)?;
-    let b = tensor(alloc, &[], 8)?;
-    single(alloc, kind, a, b, &out, 8)
-}
-
-#[test]
-fn moves_axes(rt: HostRuntime) -> Result<(), Memory> {
-    for (order, out, expected) in [
-        ([2u32, 0u32, 1u32], [4u32, 2u32, 3u32], None),
-        ([2, 0, 1], [4, 3, 2], Some((Rule::V7, 0u32))),
-        ([2, 0, 0], [4, 2, 2], Some((Rule::V2, 0))),
-        ([3, 0, 1], [4, 2, 3], Some((Rule::V2, 0))),
-    ] {
-        assert_eq!(rt; transpose(rt.alloc(), order, out)?, expected);
-    }
-    for (dims, out, expected) in [
-        ([0u32, 2u32], [2u32, 3u32, 4u32], None),
-        ([1, 0], [2, 4, 3], None),
-        ([0, 1], [2, 3, 4], Some((Rule::V7, 0u32))),
-        ([0, 0], [2, 3, 4], Some((Rule::V2, 0))),
-        ([0, 3], [2, 3, 4], Some((Rule::V2, 0))),
-    ] {
-        assert_eq!(rt; broadcast(rt.alloc(), dims, out)?, expected);
-    }
-    Ok(())
-}
-
-/// Fills a tensor of `i32` with a constant of one cell.
-fn fill(alloc: Global, cell: u64, bits: u8) -> Answer {
-    let mut sketch = Sketch::new(alloc);
-    sketch.param(tensor(alloc, &[3], 32)?)?;
-    sketch.op(constant(alloc, &[cell])?, scalar(bits)?)?;
-    let kind = OpKind::Fill {
-        value: ValueId(1),
-        outs: ValueId(0),
-    };
-    sketch.op(kind, tensor(alloc, &[3], 32)?)?;
-    sketch.end(&[2])?;
-    sketch.result(tensor(alloc, &[3], 32)?)?;
-    sketch.answer()
-}
-
-/// A generic of one scalar input, with a map of `axes` results.
-fn spread(alloc: Global, is_constant: bool, axes: u32) -> Answer {
-    let mut sketch = Sketch::new(alloc);
-    if is_constant {
-        sketch.op(constant(alloc, &[7])?, scalar(32)?)?;
-    } else {
-        sketch.param(scalar(32)?)?;
-    }
-    sketch.op(
-        OpKind::Empty {
-            sizes: List::new(alloc),
-        },
-        tensor(alloc, &[3], 32)?,
-    )?;
-    let mut maps = List::new(alloc);
-    maps.push(select(alloc, 1, 0, axes)?)?;
-    maps.push(select(alloc, 1, 0, 1)?)?;
-    let kind = generic(alloc, maps, &[PARALLEL], &[0], 1, 0)?;
-    sketch.op(kind, tensor(alloc, &[3], 32)?)?;
-    sketch.end(&[2])?;
-    sketch.result(tensor(alloc, &[3], 32)?)?;
-    sketch.answer()
-}
-
-#[test]
-fn takes_scalar_constants(rt: HostRuntime) -> Result<(), Memory> {
-    for (cell, bits, expected) in [
-        (1u64 << 31, 32u8, None),
-        (1 << 32, 32, Some((Rule::V2, 0u32))),
-        (1, 8, Some((Rule::V2, 1))),
-    ] {
-        assert_eq!(rt; fill(rt.alloc(), cell, bits)?, expected);
-    }
-    for (is_constant, axes, expected) in [
-        (true, 0u32, None),
-        (true, 1, Some((Rule::V5, 2u32))),
-        (false, 0, Some((Rule::V4, 0))),
-    ] {
-        assert_eq!(rt; spread(rt.alloc(), is_constant, axes)?, expected);
-    }
-    Ok(())
-}
-
-/// A constant tensor of these cells, whose last extent is told.
-fn dense(alloc: Global, extent: u32, last: u32, cells: &[u64]) -> Answer {
-    let mut sketch = Sketch::new(alloc);
-    sketch.op(constant(alloc, cells)?, tensor(alloc, &[extent, last], 8)?)?;
-    sketch.end(&[])?;
-    sketch.answer()
-}
-
-#[test]
-fn counts_cells(rt: HostRuntime) -> Result<(), Memory> {
-    let alloc = rt.alloc();
-    assert_eq!(rt; dense(alloc, 2, 2, &[1, 2, 3, 255])?, None);
-    assert_eq!(rt; dense(alloc, 2, 2, &[1, 2, 3])?, Some((Rule::V2, 0)));
-    assert_eq!(rt; dense(alloc, 2, 2, &[1, 2, 3, 256])?, Some((Rule::V2, 0)));
-    assert_eq!(rt; dense(alloc, 5, 0, &[])?, None);
-    assert_eq!(rt; dense(alloc, u32::MAX, 0, &[])?, Some((Rule::V14, 0)));
-    assert_eq!(rt; dense(alloc, u32::MAX, u32::MAX, &[])?, Some((Rule::V2, 0)));
-    Ok(())
-}
-
-/// An empty tensor at operation 1, or a parameter.
-fn sized(alloc: Global, extents: &[u32], is_parameter: bool) -> Answer {
-    let mut sketch = Sketch::new(alloc);
-    if is_parameter {
-        sketch.param(tensor(alloc, extents, 1)?)?;
-        sketch.op(constant(alloc, &[0])?, scalar(1)?)?;
-    } else {
-        sketch.op(constant(alloc, &[0])?, scalar(1)?)?;
-        sketch.op(
-            OpKind::Empty {
-                sizes: List::new(alloc),
+fn names_the_lowest_broken_rule(rt: HostRuntime) -> Result<(), Memory> {
+    let rows = [
+        (
+            Row {
+                returned: 7,
+                ..SAMPLE
             },
-            tensor(alloc, extents, 1)?,
-        )?;
+            Rule::V1,
+            2,
+        ),
+        (
+            Row {
+                second_value: 0,
+                ..SAMPLE
+            },
+            Rule::V1,
+            0,
+        ),
+        (Row { maps: 2, ..SAMPLE }, Rule::V2, 1),
+        (
+            Row {
+                result_bits: 8,
+                ..SAMPLE
+            },
+            Rule::V2,
+            1,
+        ),
+        (
+            Row {
+                ends: false,
+                ..SAMPLE
+            },
+            Rule::V3,
+            1,
+        ),
+        (
+            Row {
+                declared_scalar: true,
+                ..SAMPLE
+            },
+            Rule::V4,
+            0,
+        ),
+        (Row { dims: 2, ..SAMPLE }, Rule::V5, 1),
+        (
+            Row {
+                iterator: Iter::Reduction,
+                ..SAMPLE
+            },
+            Rule::V6,
+            1,
+        ),
+        (
+            Row {
+                second_extent: 4,
+                ..SAMPLE
+            },
+            Rule::V7,
+            1,
+        ),
+        (
+            Row {
+                result_extent: 4,
+                ..SAMPLE
+            },
+            Rule::V7,
+            1,
+        ),
+        (
+            Row {
+                declared_extent: 4,
+                ..SAMPLE
+            },
+            Rule::V7,
+            2,
+        ),
+    ];
+    for (row, rule, op) in rows {
+        assert_eq!(rt; refusal(rt.alloc(), &row)?, Some((rule, op)));
     }
-    sketch.end(&[])?;
-    sketch.answer()
-}
-
-/// A sum over 6 dimensions of one input and `rest` of another, into one element.
-fn reduce(alloc: Global, iterators: &[Iter], dims: u32, ones: &[u32]) -> Answer {
-    let mut maps = List::new(alloc);
-    maps.push(select(alloc, dims, 0, 6)?)?;
-    maps.push(select(alloc, dims, 6, dims)?)?;
-    maps.push(select(alloc, dims, 0, 0)?)?;
-    let kind = generic(alloc, maps, iterators, &[0, 1], 2, 0)?;
-    let a = tensor(alloc, &[1, 1, 1, 1, 1, 1], 32)?;
-    let b = tensor(alloc, ones, 32)?;
-    single(alloc, kind, a, b, &[], 32)
-}
-
-#[test]
-fn keeps_limits(rt: HostRuntime) -> Result<(), Memory> {
-    let alloc = rt.alloc();
-    let past = Some((Rule::V14, 1));
-    assert_eq!(rt; sized(alloc, &[], false)?, None);
-    assert_eq!(rt; sized(alloc, &[1, 1, 1, 1, 1, 1, 1, 1], false)?, None);
-    assert_eq!(rt; sized(alloc, &[1, 1, 1, 1, 1, 1, 1, 1, 1], false)?, past);
-    assert_eq!(rt; sized(alloc, &[1_048_576, 4], false)?, None);
-    assert_eq!(rt; sized(alloc, &[1_048_576, 5], false)?, past);
-    assert_eq!(rt; sized(alloc, &[1_048_577], false)?, past);
-    assert_eq!(rt; sized(alloc, &[1_048_577], true)?, Some((Rule::V14, 0)));
-    assert_eq!(rt; reduce(alloc, &[REDUCTION; 12], 12, &[1; 6])?, None);
-    assert_eq!(rt;
-        reduce(alloc, &[REDUCTION; 13], 13, &[1; 7])?,
-        Some((Rule::V14, 0))
-    );
-    Ok(())
-}
-
-/// A constant, and then the values returned, where results are of 3 and of 2 elements; parameter 0 has 2, and 1 has 3.
-fn returned(alloc: Global, values: &[u32]) -> Answer {
-    let mut sketch = Sketch::new(alloc);
-    sketch.param(tensor(alloc, &[2], 8)?)?;
-    sketch.param(tensor(alloc, &[3], 8)?)?;
-    sketch.op(constant(alloc, &[0])?, scalar(8)?)?;
-    sketch.end(values)?;
-    sketch.result(tensor(alloc, &[3], 8)?)?;
-    sketch.result(tensor(alloc, &[2], 8)?)?;
-    sketch.answer()
-}
-
-/// An operation without a result, behind a constant and perhaps before a `return`.
-fn misplaced(alloc: Global, kind: OpKind, ends: bool) -> Answer {
-    let mut sketch = Sketch::new(alloc);
-    sketch.op(constant(alloc, &[0])?, scalar(8)?)?;
-    sketch.push(kind, List::new(alloc))?;
-    if ends {
-        sketch.end(&[])?;
-    }
-    sketch.answer()
-}
-
-#[test]
-fn returns_at_the_end(rt: HostRuntime) -> Result<(), Memory> {
-    let alloc = rt.alloc();
-    assert_eq!(rt; returned(alloc, &[1, 0])?, None);
-    assert_eq!(rt; returned(alloc, &[0, 1])?, Some((Rule::V7, 1)));
-    assert_eq!(rt; returned(alloc, &[1])?, Some((Rule::V2, 1)));
-    assert_eq!(rt; returned(alloc, &[1, 2])?, Some((Rule::V2, 1)));
-    assert_eq!(rt; returned(alloc, &[1, 3])?, Some((Rule::V1, 1)));
-    let early = OpKind::Return {
-        values: List::new(alloc),
-    };
-    assert_eq!(rt; misplaced(alloc, early, true)?, Some((Rule::V3, 1)));
-    let unbuilt = OpKind::Yield {
-        values: List::new(alloc),
-    };
-    assert_eq!(rt; misplaced(alloc, unbuilt, true)?, Some((Rule::V2, 1)));
     Ok(())
 }
