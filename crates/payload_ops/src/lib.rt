@@ -41,7 +41,7 @@ mod padding;
 mod payloads;
 mod step;
 
-pub use bits::{compare, signed, wrap};
+pub use bits::{all_ones, compare, sign_bit, signed, wrap};
 pub use combine::{combiner, neutral};
 pub use evaluation::eval;
 pub use kinds::{BinOp, Combiner, Division, ElemTy, Predicate, Width};

@@ -1,3 +1,4 @@
+pub mod Extents
 pub mod Loops
 mod Numbers
 pub mod Ordered
@@ -5,3 +6,4 @@ pub mod Printed
 pub mod Runs
 pub mod Scans
 pub mod Spacing
+pub mod Written

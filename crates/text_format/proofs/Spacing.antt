@@ -342,8 +342,9 @@ minus_ends b rest e = rw e refl
 
 -- ---- the fixed tokens
 
--- a mark or a quoted text, which ends before anything
+-- a mark or a quoted text, which ends before anything; a minus doesn't, since -> is another mark
 abbrev pub is_closed_lexeme : Lexeme → Bool
+is_closed_lexeme lexemes.Minus = false
 is_closed_lexeme l = elim (lexeme_kind l) [ Mark ↦ true | Quoted ↦ true | _ ↦ false ]
 
 -- which ends before anything
@@ -361,30 +362,87 @@ lexeme_closed lexemes.Comma e = record { ends = λ rest. refl }
 lexeme_closed lexemes.Colon e = record { ends = λ rest. refl }
 lexeme_closed lexemes.Equals e = record { ends = λ rest. refl }
 lexeme_closed lexemes.Arrow e = record { ends = λ rest. refl }
+lexeme_closed lexemes.Plus e = record { ends = λ rest. refl }
+lexeme_closed lexemes.Times e = record { ends = λ rest. refl }
 lexeme_closed lexemes.Parallel e = quoted_closed (codes "parallel") refl
+lexeme_closed lexemes.QuotedNone e = quoted_closed (codes "none") refl
+lexeme_closed lexemes.FuseElementwiseOps e = quoted_closed (codes "linalg-fuse-elementwise-ops") refl
 lexeme_closed l e = absurd (cc e)
 
 closed_name : {k : Kind} {t : List ℕ} → IsClosed k t → IsName k t
 closed_name c = record { ends = λ rest s. c.ends rest }
 
--- each ends before a stop
-pub lexeme_name : (l : Lexeme) → IsName (lexeme_kind l) (lexeme_text l)
-lexeme_name lexemes.Module = word_name 109 (codes "odule") refl refl refl (λ rest. refl) refl
-lexeme_name lexemes.FuncFunc = word_name 102 (codes "unc.func") refl refl refl (λ rest. refl) refl
-lexeme_name lexemes.Return = word_name 114 (codes "eturn") refl refl refl (λ rest. refl) refl
-lexeme_name lexemes.FuncReturn = word_name 102 (codes "unc.return") refl refl refl (λ rest. refl) refl
-lexeme_name lexemes.AffineMap = word_name 97 (codes "ffine_map") refl refl refl (λ rest. refl) refl
-lexeme_name lexemes.D0 = word_name 100 (codes "0") refl refl refl (λ rest. refl) refl
-lexeme_name lexemes.TensorEmpty = word_name 116 (codes "ensor.empty") refl refl refl (λ rest. refl) refl
-lexeme_name lexemes.LinalgGeneric = word_name 108 (codes "inalg.generic") refl refl refl (λ rest. refl) refl
-lexeme_name lexemes.IndexingMaps = word_name 105 (codes "ndexing_maps") refl refl refl (λ rest. refl) refl
-lexeme_name lexemes.IteratorTypes = word_name 105 (codes "terator_types") refl refl refl (λ rest. refl) refl
-lexeme_name lexemes.Ins = word_name 105 (codes "ns") refl refl refl (λ rest. refl) refl
-lexeme_name lexemes.Outs = word_name 111 (codes "uts") refl refl refl (λ rest. refl) refl
-lexeme_name lexemes.Bb0 = block_name 98 (codes "b0") refl refl
-lexeme_name lexemes.ArithAddi = word_name 97 (codes "rith.addi") refl refl refl (λ rest. refl) refl
-lexeme_name lexemes.LinalgYield = word_name 108 (codes "inalg.yield") refl refl refl (λ rest. refl) refl
-lexeme_name l = closed_name (lexeme_closed l refl)
+-- a minus goes on with a >
+abbrev pub is_minus : Lexeme → Bool
+is_minus lexemes.Minus = true
+is_minus l = false
+
+-- each but the minus ends before a stop
+pub lexeme_name : (l : Lexeme) → is_minus l ≡ false → IsName (lexeme_kind l) (lexeme_text l)
+lexeme_name lexemes.Module e = word_name 109 (codes "odule") refl refl refl (λ rest. refl) refl
+lexeme_name lexemes.FuncFunc e = word_name 102 (codes "unc.func") refl refl refl (λ rest. refl) refl
+lexeme_name lexemes.Return e = word_name 114 (codes "eturn") refl refl refl (λ rest. refl) refl
+lexeme_name lexemes.FuncReturn e = word_name 102 (codes "unc.return") refl refl refl (λ rest. refl) refl
+lexeme_name lexemes.AffineMap e = word_name 97 (codes "ffine_map") refl refl refl (λ rest. refl) refl
+lexeme_name lexemes.D0 e = word_name 100 (codes "0") refl refl refl (λ rest. refl) refl
+lexeme_name lexemes.TensorEmpty e = word_name 116 (codes "ensor.empty") refl refl refl (λ rest. refl) refl
+lexeme_name lexemes.LinalgGeneric e = word_name 108 (codes "inalg.generic") refl refl refl (λ rest. refl) refl
+lexeme_name lexemes.IndexingMaps e = word_name 105 (codes "ndexing_maps") refl refl refl (λ rest. refl) refl
+lexeme_name lexemes.IteratorTypes e = word_name 105 (codes "terator_types") refl refl refl (λ rest. refl) refl
+lexeme_name lexemes.Ins e = word_name 105 (codes "ns") refl refl refl (λ rest. refl) refl
+lexeme_name lexemes.Outs e = word_name 111 (codes "uts") refl refl refl (λ rest. refl) refl
+lexeme_name lexemes.Bb0 e = block_name 98 (codes "b0") refl refl
+lexeme_name lexemes.ArithAddi e = word_name 97 (codes "rith.addi") refl refl refl (λ rest. refl) refl
+lexeme_name lexemes.LinalgYield e = word_name 108 (codes "inalg.yield") refl refl refl (λ rest. refl) refl
+lexeme_name lexemes.True e = word_name 116 (codes "rue") refl refl refl (λ rest. refl) refl
+lexeme_name lexemes.False e = word_name 102 (codes "alse") refl refl refl (λ rest. refl) refl
+lexeme_name lexemes.Dense e = word_name 100 (codes "ense") refl refl refl (λ rest. refl) refl
+lexeme_name lexemes.Index e = word_name 105 (codes "ndex") refl refl refl (λ rest. refl) refl
+lexeme_name lexemes.ArithConstant e = word_name 97 (codes "rith.constant") refl refl refl (λ rest. refl) refl
+lexeme_name lexemes.ArithCmpi e = word_name 97 (codes "rith.cmpi") refl refl refl (λ rest. refl) refl
+lexeme_name lexemes.ArithSelect e = word_name 97 (codes "rith.select") refl refl refl (λ rest. refl) refl
+lexeme_name lexemes.ArithIndexCast e = word_name 97 (codes "rith.index_cast") refl refl refl (λ rest. refl) refl
+lexeme_name lexemes.LinalgIndex e = word_name 108 (codes "inalg.index") refl refl refl (λ rest. refl) refl
+lexeme_name lexemes.AffineApply e = word_name 97 (codes "ffine.apply") refl refl refl (λ rest. refl) refl
+lexeme_name lexemes.LinalgFill e = word_name 108 (codes "inalg.fill") refl refl refl (λ rest. refl) refl
+lexeme_name lexemes.LinalgMatmul e = word_name 108 (codes "inalg.matmul") refl refl refl (λ rest. refl) refl
+lexeme_name lexemes.LinalgBatchMatmul e = word_name 108 (codes "inalg.batch_matmul") refl refl refl (λ rest. refl) refl
+lexeme_name lexemes.LinalgTranspose e = word_name 108 (codes "inalg.transpose") refl refl refl (λ rest. refl) refl
+lexeme_name lexemes.LinalgBroadcast e = word_name 108 (codes "inalg.broadcast") refl refl refl (λ rest. refl) refl
+lexeme_name lexemes.Permutation e = word_name 112 (codes "ermutation") refl refl refl (λ rest. refl) refl
+lexeme_name lexemes.Dimensions e = word_name 100 (codes "imensions") refl refl refl (λ rest. refl) refl
+lexeme_name lexemes.Attributes e = word_name 97 (codes "ttributes") refl refl refl (λ rest. refl) refl
+lexeme_name lexemes.WithNamedSequence e = word_name 116 (codes "ransform.with_named_sequence") refl refl refl (λ rest. refl) refl
+lexeme_name lexemes.NamedSequence e = word_name 116 (codes "ransform.named_sequence") refl refl refl (λ rest. refl) refl
+lexeme_name lexemes.Readonly e = word_name 116 (codes "ransform.readonly") refl refl refl (λ rest. refl) refl
+lexeme_name lexemes.TransformYield e = word_name 116 (codes "ransform.yield") refl refl refl (λ rest. refl) refl
+lexeme_name lexemes.StructuredMatch e = word_name 116 (codes "ransform.structured.match") refl refl refl (λ rest. refl) refl
+lexeme_name lexemes.StructuredGeneralize e = word_name 116 (codes "ransform.structured.generalize") refl refl refl (λ rest. refl) refl
+lexeme_name lexemes.StructuredInterchange e = word_name 116 (codes "ransform.structured.interchange") refl refl refl (λ rest. refl) refl
+lexeme_name lexemes.TileUsingFor e = word_name 116 (codes "ransform.structured.tile_using_for") refl refl refl (λ rest. refl) refl
+lexeme_name lexemes.TileUsingForall e = word_name 116 (codes "ransform.structured.tile_using_forall") refl refl refl (λ rest. refl) refl
+lexeme_name lexemes.FuseIntoContainingOp e = word_name 116 (codes "ransform.structured.fuse_into_containing_op") refl refl refl (λ rest. refl) refl
+lexeme_name lexemes.StructuredPad e = word_name 116 (codes "ransform.structured.pad") refl refl refl (λ rest. refl) refl
+lexeme_name lexemes.StructuredPack e = word_name 116 (codes "ransform.structured.pack") refl refl refl (λ rest. refl) refl
+lexeme_name lexemes.StructuredVectorize e = word_name 116 (codes "ransform.structured.vectorize") refl refl refl (λ rest. refl) refl
+lexeme_name lexemes.SplitHandle e = word_name 116 (codes "ransform.split_handle") refl refl refl (λ rest. refl) refl
+lexeme_name lexemes.ApplyRegisteredPass e = word_name 116 (codes "ransform.apply_registered_pass") refl refl refl (λ rest. refl) refl
+lexeme_name lexemes.Ops e = word_name 111 (codes "ps") refl refl refl (λ rest. refl) refl
+lexeme_name lexemes.In e = word_name 105 (codes "n") refl refl refl (λ rest. refl) refl
+lexeme_name lexemes.Into e = word_name 105 (codes "nto") refl refl refl (λ rest. refl) refl
+lexeme_name lexemes.To e = word_name 116 (codes "o") refl refl refl (λ rest. refl) refl
+lexeme_name lexemes.IteratorInterchange e = word_name 105 (codes "terator_interchange") refl refl refl (λ rest. refl) refl
+lexeme_name lexemes.TileSizes e = word_name 116 (codes "ile_sizes") refl refl refl (λ rest. refl) refl
+lexeme_name lexemes.PackedSizes e = word_name 112 (codes "acked_sizes") refl refl refl (λ rest. refl) refl
+lexeme_name lexemes.VectorSizes e = word_name 118 (codes "ector_sizes") refl refl refl (λ rest. refl) refl
+lexeme_name lexemes.PaddingValues e = word_name 112 (codes "adding_values") refl refl refl (λ rest. refl) refl
+lexeme_name lexemes.PaddingDimensions e = word_name 112 (codes "adding_dimensions") refl refl refl (λ rest. refl) refl
+lexeme_name lexemes.PadToMultipleOf e = word_name 112 (codes "ad_to_multiple_of") refl refl refl (λ rest. refl) refl
+lexeme_name lexemes.CopyBackOp e = word_name 99 (codes "opy_back_op") refl refl refl (λ rest. refl) refl
+lexeme_name lexemes.AnyOp e = type_word_name 116 (codes "ransform.any_op") refl refl
+lexeme_name lexemes.TransformMain e = symbol_name 95 (codes "_transform_main") refl refl
+lexeme_name lexemes.Minus e = absurd (cc e)
+lexeme_name l e = closed_name (lexeme_closed l refl)
 
 -- ---- pieces
 
@@ -430,8 +488,8 @@ pub fixed_closed : (l : Lexeme) {ps : List Piece} → is_closed_lexeme l ≡ tru
 fixed_closed l {ps = ps} e h = record { spaced = λ rest s. ((lexeme_closed l e).ends (bytes_of ps ++ rest), h.spaced rest s) }
 
 -- a word that it fixes, and what opens behind it
-pub fixed_word : (l : Lexeme) {ps : List Piece} → Opens ps → IsApart ps → IsApart (Fixed l ∷ ps)
-fixed_word l {ps = ps} o h = record { spaced = λ rest s. ((lexeme_name l).ends (bytes_of ps ++ rest) (o.opens rest s), h.spaced rest s) }
+pub fixed_word : (l : Lexeme) {ps : List Piece} → is_minus l ≡ false → Opens ps → IsApart ps → IsApart (Fixed l ∷ ps)
+fixed_word l {ps = ps} e o h = record { spaced = λ rest s. ((lexeme_name l e).ends (bytes_of ps ++ rest) (o.opens rest s), h.spaced rest s) }
 
 -- a name, and what opens behind it
 pub leaf_name : (c : Class) {kind : Kind} {t : List ℕ} {ps : List Piece} → IsName kind t → Opens ps → IsApart ps → IsApart (Leaf c kind t ∷ ps)

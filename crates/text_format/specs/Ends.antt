@@ -1,14 +1,15 @@
 -- Formats of a whole text. Nothing comes behind it, so that it may end in an item that need not be there.
-use Rattle.std.specs.Prelude.{◌≡◌, ◌≤◌, ℕ, Bool, true, false, List, [], ◌∷◌, ◌++◌, length, ◌⊎◌, cond, Option, Some, None}
-use Rattle.std.proofs.Common.{refl, sym, ap, subst, ◌∙◌, inl, inr, arith}
+use Rattle.std.specs.Prelude.{◌≡◌, ◌≤◌, ℕ, zero, suc, Bool, true, false, List, [], ◌∷◌, ◌++◌, length, ◌⊎◌, cond, Option, Some, None}
+use Rattle.std.proofs.Common.{refl, sym, ap, subst, ◌∙◌, inl, inr, arith, length-append}
 use Rattle.std.proofs.lemmas.Bool.{cond-true, cond-false}
 use Rattle.std.proofs.lemmas.List.{append-nil}
 use Rattle.text_format.specs.declared.class.Class.{Class}
 use Rattle.text_format.specs.Token.{TokenShape}
-use Rattle.text_format.specs.Formats.{State, Item, live, sees, Format, as_record, spell_either, first_read, second_read, either, spell_some, some_read, optional_at}
+use Rattle.text_format.specs.Formats.{State, Item, live, sees, Format, as_record, spell_either, first_read, second_read, either, spell_some, some_read, optional_at, spell_many, many_in, weight, many_at}
 use Rattle.text_format.specs.Laws.{Matches, Consumes, IsExact, begins, avoids}
-use Rattle.text_format.specs.Apart.{begins_sees, avoids_sees, begins_front, avoids_front}
+use Rattle.text_format.specs.Apart.{begins_sees, avoids_sees, begins_front, avoids_front, nonempty}
 use Rattle.text_format.specs.Exact.{nothing, one_then, split, fronts, none_read, forward_by, from_here, read_front}
+use Rattle.text_format.specs.Many.{many_reads, many_once, many_again, many_forward, first_begins}
 
 -- what is read is spelled so; a text that is spelled so is read; tokens that begin as one is spelled are read, whatever comes after them
 pub record IsWhole {A : Type 0} (f : Format A) : Type 0 where
@@ -144,4 +145,49 @@ last-whole c {f} {g} p q first = record {
       let e = ap (λ (y : List TokenShape). f.read (live end y)) r.2 ∙ p.again end x.0 r.0 r.1 r.3 in
       ap (λ y. ((y.0, (optional_at c g y.1).0), (optional_at c g y.1).1)) e ∙ ap (λ y. ((x.0, y.0), y.1)) (last_whole c g q first end x.1 r.1 r.4);
   greedy = λ end x pre tail ts rest e m. with_greedy c f g p q first end x pre tail ts rest e m;
+}
+
+-- ---- any number of items, up to the end
+
+-- items, as long as a token of the class comes next
+abbrev pub all : {A : Type 0} → Class → Format A → Format (List A)
+all c f = record { spell = spell_many f; read = many_at c f }
+
+all_whole : {A : Type 0} (c : Class) (f : Format A) → IsExact f → ((x : A) → begins c (f.spell x) ≡ true)
+    → (end : ℕ) (xs : List A) (ts : List TokenShape) → Matches (spell_many f xs) ts → many_at c f (live end ts) ≡ (xs, live end [])
+unfolding sees
+all_whole c f p first end xs ts m =
+    ap (λ (y : List TokenShape). many_in c f (length ts) (live end y)) (sym (append-nil ts)) ∙ many_again f p c first end xs ts [] (length ts) m (omega arith) refl
+
+all_greedy : {A : Type 0} (c : Class) (f : Format A) → IsExact f → ((x : A) → begins c (f.spell x) ≡ true)
+    → (end : ℕ) (xs : List A) (pre tail : List Item) (ts rest : List TokenShape) (n : ℕ) → spell_many f xs ≡ pre ++ tail → Matches pre ts → length ts ≤ n → length (many_in c f n (live end (ts ++ rest))).1.rest ≤ length rest
+all_greedy c f p first end xs [] tail ts rest n e m le =
+    let h = many_forward f p c n (live end (ts ++ rest)) in
+    omega (arith, h, ap (λ (y : List TokenShape). length (y ++ rest)) (none_read ts m))
+all_greedy c f p first end xs (i ∷ pre) tail [] rest n e m le = absurd m
+all_greedy c f p first end [] (i ∷ pre) tail (t ∷ ts) rest n e m le = absurd cc
+all_greedy c f p first end (x ∷ xs) (i ∷ pre) tail (t ∷ ts) rest zero e m le = absurd (omega arith)
+all_greedy c f p first end (x ∷ xs) (i ∷ pre) tail (t ∷ ts) rest (suc n) e m le =
+    let yes = begins_sees c end (i ∷ pre) (t ∷ ts) rest (first_begins c (f.spell x) (spell_many f xs) i pre tail (first x) e) m in
+    let once = ap (λ r. length r.1.rest) (many_once f c n (live end (t ∷ (ts ++ rest))) yes) in
+    let mid = (f.read (live end (t ∷ (ts ++ rest)))).1 in
+    elim (fronts (f.spell x) (spell_many f xs) (i ∷ pre) tail e) [
+      | inl r ↦
+          let a = p.greedy end x (i ∷ pre) r.0 (t ∷ ts) rest r.1 m in
+          let b = many_forward f p c n mid in
+          omega (arith, a, b, once)
+      | inr r ↦
+          let s = split (f.spell x) r.0 (t ∷ ts) (subst (λ is. Matches is (t ∷ ts)) r.1 m) in
+          let one = ap (λ y. length (many_in c f n y.1).1.rest) (read_front f p end x s.0 s.1 (t ∷ ts) rest s.2 s.3) in
+          let d = nonempty c (f.spell x) s.0 (first x) s.3 in
+          let le2 : length s.1 ≤ n = omega (arith, le, d, length-append s.0 s.1, ap length s.2) in
+          let a = all_greedy c f p first end xs r.0 tail s.1 rest n r.2 s.4 le2 in
+          omega (arith, a, once, one)
+    ]
+
+pub all-whole : {A : Type 0} (c : Class) {f : Format A} → IsExact f → ((x : A) → begins c (f.spell x) ≡ true) → IsWhole (all c f)
+all-whole c {f} p first = record {
+  reads = λ s. many_reads f p c (weight s) s;
+  whole = λ end xs ts m. all_whole c f p first end xs ts m;
+  greedy = λ end xs pre tail ts rest e m. all_greedy c f p first end xs pre tail ts rest (length (ts ++ rest)) e m (omega (arith, length-append ts rest));
 }

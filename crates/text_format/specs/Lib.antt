@@ -15,3 +15,4 @@ pub mod Token
 pub mod Tokens
 pub mod Types
 pub mod Words
+pub mod Writers

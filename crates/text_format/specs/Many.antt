@@ -43,7 +43,7 @@ many_step : {A : Type 0} (f : Format A) (s mid : State) (x : A) (r : List A × S
 many_step f s mid x r true p q = one_then (f.spell x) (spell_many f r.0) s mid r.1 p q
 many_step f s mid x r false p q = nothing s.stop s.end s.rest
 
-many_reads : {A : Type 0} (f : Format A) → IsExact f → (c : Class) (n : ℕ) (s : State) → Consumes (spell_many f (many_in c f n s).0) s (many_in c f n s).1
+pub many_reads : {A : Type 0} (f : Format A) → IsExact f → (c : Class) (n : ℕ) (s : State) → Consumes (spell_many f (many_in c f n s).0) s (many_in c f n s).1
 unfolding many_in
 many_reads f p c zero s = nothing s.stop s.end s.rest
 many_reads f p c (suc n) s =
@@ -82,7 +82,7 @@ many_any f p c first (suc n) (suc m) s a b =
     let h = lighter f p c first s e in
     many_any f p c first n m r.1 (omega (arith, h, a)) (omega (arith, h, b)))
 
-many_again : {A : Type 0} (f : Format A) → IsExact f → (c : Class) → ((x : A) → begins c (f.spell x) ≡ true)
+pub many_again : {A : Type 0} (f : Format A) → IsExact f → (c : Class) → ((x : A) → begins c (f.spell x) ≡ true)
     → (end : ℕ) (xs : List A) (ts rest : List TokenShape) (n : ℕ) → Matches (spell_many f xs) ts → length ts ≤ n → sees c (live end rest) ≡ false → many_in c f n (live end (ts ++ rest)) ≡ (xs, live end rest)
 many_again f p c first end [] [] rest n m le e = many_none f c n (live end rest) e
 many_again f p c first end [] (t ∷ ts) rest n m le e = absurd m
@@ -99,10 +99,10 @@ many_again f p c first end (x ∷ xs) ts rest (suc n) m le e =
     let others = many_again f p c first end xs r.1 rest n r.4 (omega (arith, k, le, length-append r.0 r.1, ap length r.2)) e in
     many_once f c n (live end (ts ++ rest)) yes ∙ ap (λ y. onto y.0 (many_in c f n y.1)) one ∙ ap (onto x) others
 
-many_forward : {A : Type 0} (f : Format A) → IsExact f → (c : Class) (n : ℕ) (s : State) → length (many_in c f n s).1.rest ≤ length s.rest
+pub many_forward : {A : Type 0} (f : Format A) → IsExact f → (c : Class) (n : ℕ) (s : State) → length (many_in c f n s).1.rest ≤ length s.rest
 many_forward f p c n s = forward_by s.stop s.end (spell_many f (many_in c f n s).0) s.rest (many_in c f n s).1 (many_reads f p c n s)
 
-first_begins : (c : Class) (is ys : List Item) (i : Item) (pre tail : List Item) → begins c is ≡ true → is ++ ys ≡ i ∷ (pre ++ tail) → begins c (i ∷ pre) ≡ true
+pub first_begins : (c : Class) (is ys : List Item) (i : Item) (pre tail : List Item) → begins c is ≡ true → is ++ ys ≡ i ∷ (pre ++ tail) → begins c (i ∷ pre) ≡ true
 first_begins c [] ys i pre tail b e = absurd cc
 first_begins c (Fixed l ∷ is) ys i pre tail b e = let h : Fixed l ≡ i = cc in subst (λ (j : Item). begins c (j ∷ pre) ≡ true) h b
 first_begins c (Leaf d u ∷ is) ys i pre tail b e = let h : Leaf d u ≡ i = cc in subst (λ (j : Item). begins c (j ∷ pre) ≡ true) h b

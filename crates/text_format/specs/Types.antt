@@ -1,5 +1,5 @@
 -- The types that a text writes: element types, and shaped types as `tensor<4xi32>`.
-use Rattle.std.specs.Prelude.{ℕ, ◌+◌, ◌*◌, ◌-◌, Bool, true, false, not, ◌&&◌, ◌||◌, ◌==◌, List, [], ◌∷◌, length, take, drop, if◌then◌else◌, nat_lt, nat_le, codes, Option, Some, None}
+use Rattle.std.specs.Prelude.{ℕ, ◌+◌, ◌*◌, ◌-◌, Bool, true, false, not, ◌&&◌, ◌||◌, ◌==◌, List, [], ◌∷◌, length, take, drop, map, if◌then◌else◌, nat_lt, nat_le, codes, Option, Some, None}
 use Rattle.std.specs.Str.{bytes_eq}
 use Rattle.std.specs.List.{list_all}
 use Rattle.payload_ops.specs.declared.kinds.ElemTy.{ElemTy}
@@ -10,7 +10,7 @@ use Rattle.text_format.specs.declared.types.Step.{Step}
 use Rattle.text_format.specs.declared.types.Step.TheVariants.{Goes, Element, Fault}
 use Rattle.text_format.specs.declared.types.Extent.{Extent}
 use Rattle.text_format.specs.declared.types.Extent.TheVariants.{Fixed, TooLarge}
-use Rattle.text_format.specs.declared.types.Shape.{Shape}
+use Rattle.text_format.specs.declared.types.RankedShape.{RankedShape}
 use Rattle.text_format.specs.Bytes.{is_digit, is_letter, is_word_byte}
 
 abbrev pub is_some : {A : Type 0} → Option A → Bool
@@ -56,22 +56,31 @@ abbrev pub number_at : List ℕ → ℕ → ℕ × List ℕ
 number_at [] n = (n, [])
 number_at (b ∷ bs) n = if is_digit b then number_at bs (n * 10 + (b - 48)) else (n, b ∷ bs)
 
-abbrev pub with_extent : ℕ → Option ℕ → Option (ℕ × ℕ)
-with_extent n None = None
-with_extent n (Some w) = Some (n, w)
+abbrev pub no_extents : Option ℕ → Option (List ℕ × ℕ)
+no_extents None = None
+no_extents (Some w) = Some ([], w)
 
-abbrev pub behind_extent : ℕ → List ℕ → Option (ℕ × ℕ)
-behind_extent n [] = None
-behind_extent n (b ∷ bs) = if b == 120 then with_extent n (width_of bs) else None
+abbrev pub extent_before : ℕ → Option (List ℕ × ℕ) → Option (List ℕ × ℕ)
+extent_before n None = None
+extent_before n (Some p) = Some (n ∷ p.0, p.1)
 
--- an extent, `x`, and an integer type
-abbrev pub shape_inside : List ℕ → Option (ℕ × ℕ)
-shape_inside [] = None
-shape_inside (b ∷ bs) = if is_digit b then behind_extent (number_at (b ∷ bs) 0).0 (number_at (b ∷ bs) 0).1 else None
+-- extents, each followed by `x`, and then an integer type. Where the digits before spell a part of an extent, it goes on from that
+abbrev pub extents_in : List ℕ → Option ℕ → Option (List ℕ × ℕ)
+extents_in [] part = None
+extents_in (b ∷ bs) None = if is_digit b then extents_in bs (Some (b - 48)) else no_extents (width_of (b ∷ bs))
+extents_in (b ∷ bs) (Some n) = if is_digit b then extents_in bs (Some (n * 10 + (b - 48))) else (if b == 120 then extent_before n (extents_in bs None) else None)
 
--- the extent and the width of a tensor's type of rank 1, as `tensor<4xi32>`
-unfoldable pub shape_of : List ℕ → Option (ℕ × ℕ)
-shape_of text = if is_shaped (codes "tensor<") text then shape_inside (inside text) else None
+abbrev pub begins_with_digit : List ℕ → Bool
+begins_with_digit [] = false
+begins_with_digit (b ∷ bs) = is_digit b
+
+abbrev pub begins_with_x : List ℕ → Bool
+begins_with_x [] = false
+begins_with_x (b ∷ bs) = b == 120
+
+-- the extents and the width of a tensor's type of any rank with fixed extents, as `tensor<4x2xi32>` or `tensor<i32>`
+unfoldable pub extents_of : List ℕ → Option (List ℕ × ℕ)
+extents_of text = if is_shaped (codes "tensor<") text then extents_in (inside text) None else None
 
 -- ---- shaped types with elements that the profile hasn't
 
@@ -106,6 +115,10 @@ is_other_element text = is_type_word text && not (is_some (width_of text))
 unfoldable pub has_other_element : List ℕ → Bool
 has_other_element text = (is_shaped (codes "tensor<") text || is_shaped (codes "vector<") text) && is_other_element (element_at (inside text) Start)
 
+-- a tensor's type whose extents may be `?`, with elements i1 to i64
+unfoldable pub is_any_tensor : List ℕ → Bool
+is_any_tensor text = is_shaped (codes "tensor<") text && is_some (width_of (element_at (inside text) Start))
+
 -- ---- what is kept of a type
 
 -- an extent up to this one is kept
@@ -119,6 +132,6 @@ least_extent n = if nat_le n most_extent then n else most_extent + 1
 abbrev pub extent_of : ℕ → Extent
 extent_of n = if nat_le n most_extent then Fixed n else TooLarge
 
-abbrev pub shape_from : Option (ℕ × ℕ) → Option Shape
-shape_from None = None
-shape_from (Some p) = Some (record { extent = extent_of p.0; width = p.1 })
+abbrev pub ranked_from : Option (List ℕ × ℕ) → Option RankedShape
+ranked_from None = None
+ranked_from (Some p) = Some (record { extents = map extent_of p.0; width = p.1 })

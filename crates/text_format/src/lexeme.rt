@@ -18,6 +18,9 @@ pub enum Lexeme {
     Colon,
     Equals,
     Arrow,
+    Minus,
+    Plus,
+    Times,
     Module,
     FuncFunc,
     Return,
@@ -34,6 +37,59 @@ pub enum Lexeme {
     Bb0,
     ArithAddi,
     LinalgYield,
+    True,
+    False,
+    Dense,
+    Index,
+    ArithConstant,
+    ArithCmpi,
+    ArithSelect,
+    ArithIndexCast,
+    LinalgIndex,
+    AffineApply,
+    LinalgFill,
+    LinalgMatmul,
+    LinalgBatchMatmul,
+    LinalgTranspose,
+    LinalgBroadcast,
+    Permutation,
+    Dimensions,
+    Attributes,
+    WithNamedSequence,
+    NamedSequence,
+    Readonly,
+    TransformYield,
+    StructuredMatch,
+    StructuredGeneralize,
+    StructuredInterchange,
+    TileUsingFor,
+    TileUsingForall,
+    FuseIntoContainingOp,
+    StructuredPad,
+    StructuredPack,
+    StructuredVectorize,
+    SplitHandle,
+    ApplyRegisteredPass,
+    Ops,
+    In,
+    Into,
+    To,
+    IteratorInterchange,
+    TileSizes,
+    PackedSizes,
+    VectorSizes,
+    PaddingValues,
+    PaddingDimensions,
+    PadToMultipleOf,
+    CopyBackOp,
+    /// `!transform.any_op`
+    AnyOp,
+    /// `@__transform_main`
+    TransformMain,
+    /// `"none"`
+    QuotedNone,
+    /// `"linalg-fuse-elementwise-ops"`
+    FuseElementwiseOps,
 }
 
 impl Lexeme {
@@ -42,23 +98,26 @@ impl Lexeme {
         ensures { result ≡ lexeme_kind self }
     {
         match self {
-            Lexeme::Parallel => Kind::Quoted,
+            Lexeme::Parallel | Lexeme::QuotedNone | Lexeme::FuseElementwiseOps => Kind::Quoted,
             Lexeme::Bb0 => Kind::Block,
-            Lexeme::Module
-            | Lexeme::FuncFunc
-            | Lexeme::Return
-            | Lexeme::FuncReturn
-            | Lexeme::AffineMap
-            | Lexeme::D0
-            | Lexeme::TensorEmpty
-            | Lexeme::LinalgGeneric
-            | Lexeme::IndexingMaps
-            | Lexeme::IteratorTypes
-            | Lexeme::Ins
-            | Lexeme::Outs
-            | Lexeme::ArithAddi
-            | Lexeme::LinalgYield => Kind::Word,
-            _ => Kind::Mark,
+            Lexeme::AnyOp => Kind::TypeWord,
+            Lexeme::TransformMain => Kind::Symbol,
+            Lexeme::OpenParenthesis
+            | Lexeme::CloseParenthesis
+            | Lexeme::OpenBrace
+            | Lexeme::CloseBrace
+            | Lexeme::OpenBracket
+            | Lexeme::CloseBracket
+            | Lexeme::Less
+            | Lexeme::Greater
+            | Lexeme::Comma
+            | Lexeme::Colon
+            | Lexeme::Equals
+            | Lexeme::Arrow
+            | Lexeme::Minus
+            | Lexeme::Plus
+            | Lexeme::Times => Kind::Mark,
+            _ => Kind::Word,
         }
     }
 
@@ -79,6 +138,9 @@ impl Lexeme {
             Lexeme::Colon => b":",
             Lexeme::Equals => b"=",
             Lexeme::Arrow => b"->",
+            Lexeme::Minus => b"-",
+            Lexeme::Plus => b"+",
+            Lexeme::Times => b"*",
             Lexeme::Module => b"module",
             Lexeme::FuncFunc => b"func.func",
             Lexeme::Return => b"return",
@@ -95,6 +157,55 @@ impl Lexeme {
             Lexeme::Bb0 => b"^bb0",
             Lexeme::ArithAddi => b"arith.addi",
             Lexeme::LinalgYield => b"linalg.yield",
+            Lexeme::True => b"true",
+            Lexeme::False => b"false",
+            Lexeme::Dense => b"dense",
+            Lexeme::Index => b"index",
+            Lexeme::ArithConstant => b"arith.constant",
+            Lexeme::ArithCmpi => b"arith.cmpi",
+            Lexeme::ArithSelect => b"arith.select",
+            Lexeme::ArithIndexCast => b"arith.index_cast",
+            Lexeme::LinalgIndex => b"linalg.index",
+            Lexeme::AffineApply => b"affine.apply",
+            Lexeme::LinalgFill => b"linalg.fill",
+            Lexeme::LinalgMatmul => b"linalg.matmul",
+            Lexeme::LinalgBatchMatmul => b"linalg.batch_matmul",
+            Lexeme::LinalgTranspose => b"linalg.transpose",
+            Lexeme::LinalgBroadcast => b"linalg.broadcast",
+            Lexeme::Permutation => b"permutation",
+            Lexeme::Dimensions => b"dimensions",
+            Lexeme::Attributes => b"attributes",
+            Lexeme::WithNamedSequence => b"transform.with_named_sequence",
+            Lexeme::NamedSequence => b"transform.named_sequence",
+            Lexeme::Readonly => b"transform.readonly",
+            Lexeme::TransformYield => b"transform.yield",
+            Lexeme::StructuredMatch => b"transform.structured.match",
+            Lexeme::StructuredGeneralize => b"transform.structured.generalize",
+            Lexeme::StructuredInterchange => b"transform.structured.interchange",
+            Lexeme::TileUsingFor => b"transform.structured.tile_using_for",
+            Lexeme::TileUsingForall => b"transform.structured.tile_using_forall",
+            Lexeme::FuseIntoContainingOp => b"transform.structured.fuse_into_containing_op",
+            Lexeme::StructuredPad => b"transform.structured.pad",
+            Lexeme::StructuredPack => b"transform.structured.pack",
+            Lexeme::StructuredVectorize => b"transform.structured.vectorize",
+            Lexeme::SplitHandle => b"transform.split_handle",
+            Lexeme::ApplyRegisteredPass => b"transform.apply_registered_pass",
+            Lexeme::Ops => b"ops",
+            Lexeme::In => b"in",
+            Lexeme::Into => b"into",
+            Lexeme::To => b"to",
+            Lexeme::IteratorInterchange => b"iterator_interchange",
+            Lexeme::TileSizes => b"tile_sizes",
+            Lexeme::PackedSizes => b"packed_sizes",
+            Lexeme::VectorSizes => b"vector_sizes",
+            Lexeme::PaddingValues => b"padding_values",
+            Lexeme::PaddingDimensions => b"padding_dimensions",
+            Lexeme::PadToMultipleOf => b"pad_to_multiple_of",
+            Lexeme::CopyBackOp => b"copy_back_op",
+            Lexeme::AnyOp => b"!transform.any_op",
+            Lexeme::TransformMain => b"@__transform_main",
+            Lexeme::QuotedNone => b"\"none\"",
+            Lexeme::FuseElementwiseOps => b"\"linalg-fuse-elementwise-ops\"",
         }
     }
 }

@@ -4,7 +4,7 @@
 //! production leaves open, `Lexeme` a token that it fixes, and `Token` one with its text, which a tree keeps as a leaf.
 //! A `Tree` has a format, a `Node` is read by a parser, and `list`, `many` and `optional` read several. A parser never
 //! fails: from the first token that doesn't fit on it reads no more and fills the tree up, and `Parser::end` says where
-//! that was, and whether for want of support or of syntax. `shape_of` and `element_of` give what a type's text says.
+//! that was, and whether for want of support or of syntax. `ranked_of` and `element_of` give what a type's text says.
 //!
 //! The definitions stand in `specs/`: `Bytes`, `Tokens` and `Token` the tokens, `Pieces` written text, `Lexemes`, `Words`,
 //! `Types` and `Classes` what may stand where and why a token is refused, `Formats` how trees are spelled and read, `Laws`
@@ -28,7 +28,9 @@ pub use node::{Node, Tree, list, many, optional};
 pub use parser::{Parser, Stopped};
 pub use span::{LexError, Span, tokens};
 pub use token::Token;
-pub use types::{Extent, Shape, element_of, has_other_element, shape_of, width_of};
+pub use types::{
+    Extent, RankedShape, element_of, has_other_element, is_ranked, ranked_of, width_of,
+};
 
 #[cfg(test)]
 mod format_tests;

@@ -103,6 +103,20 @@ impl<'a> Parser<'a> {
         let _token = self.leaf(Class::Exactly(lexeme));
     }
 
+    /// Where reading stopped, and why. None: it has not.
+    pub fn stopped(&self) -> Option<Stopped>
+        ensures { stop_of result ≡ self.now.stop }
+    {
+        self.stopped
+    }
+
+    /// The number of tokens that are left.
+    pub fn left(&self) -> usize
+        ensures { result ≡ length self.now.rest }
+    {
+        self.spans.len()
+    }
+
     /// Where reading ended, and why. None: all was read. A token that is left is refused as where one of the class is wanted.
     #[tactic(auto, unfolding(crate::specs::Parsing::end_of))]
     pub fn end(&self, wanted: Class) -> Option<Stopped>

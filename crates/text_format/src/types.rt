@@ -1,13 +1,14 @@
 //! The types that a text writes.
 
-ghost use Rattle.std.specs.Prelude.{◌≡◌, ◌≤◌, ◌+◌, ◌*◌, ◌-◌, IsTrue, true, length};
+ghost use Rattle.std.specs.Prelude.{◌≡◌, ◌≤◌, ◌+◌, ◌*◌, ◌-◌, IsTrue, true, length, IfOk, None};
 ghost use Rattle.std.specs.List.{list_all};
 ghost use Rattle.text_format.specs.Bytes.{is_digit, is_word_byte};
 ghost use Rattle.text_format.specs.declared.types.Part.TheVariants.{Start};
-ghost use Rattle.text_format.specs.Types.{one_digit, two_digits, width_of, element_of, least_extent, extent_of, is_shaped, inside, number_at, behind_extent, shape_inside, shape_of, shape_from, is_word, is_type_word, after_byte, element_at, is_other_element, has_other_element};
+ghost use Rattle.text_format.specs.Types.{one_digit, two_digits, width_of, element_of, least_extent, extent_of, is_shaped, inside, number_at, is_some, begins_with_digit, begins_with_x, extents_in, extents_of, ranked_from, is_word, is_type_word, after_byte, element_at, is_other_element, has_other_element, is_any_tensor};
 
 use crate::front::{is_digit, is_letter, is_word_byte};
-use payload_ops::{ElemTy, Width};
+use payload_ops::{ElemTy, List, Memory, Width};
+use std::alloc::Global;
 
 /// An extent that a text writes.
 #[derive(Clone, Copy, Debug, PartialEq, Eq)]
@@ -18,10 +19,10 @@ pub enum Extent {
     TooLarge,
 }
 
-/// A tensor's type of rank 1.
-#[derive(Clone, Copy, Debug)]
-pub struct Shape {
-    pub extent: Extent,
+/// A tensor's type of any rank, with fixed extents.
+#[derive(Debug, Drop)]
+pub struct RankedShape {
+    pub extents: List<Extent>,
     pub width: Width,
 }
 
@@ -147,51 +148,78 @@ fn extent_of(number: u32) -> Extent
     }
 }
 
-fn behind_extent(number: u32, rest: &[u8]) -> Option<Shape>
-    ensures { result ≡ shape_from (behind_extent number rest.now) }
+fn begins_with_digit(bytes: &[u8]) -> bool
+    ensures { result ≡ begins_with_digit bytes.now }
 {
-    match rest {
-        [] => None,
-        [x, element @ ..] => {
-            if *x != b'x' {
-                return None;
-            }
-            match width_of(element) {
-                Some(width) => Some(Shape {
-                    extent: extent_of(number),
-                    width,
-                }),
-                None => None,
-            }
-        }
+    match bytes {
+        [] => false,
+        [b, ..] => is_digit(*b),
     }
 }
 
-/// An extent, `x`, and an integer type.
-fn shape_inside(inside: &[u8]) -> Option<Shape>
-    ensures { result ≡ shape_from (shape_inside inside.now) }
+fn begins_with_x(bytes: &[u8]) -> bool
+    ensures { result ≡ begins_with_x bytes.now }
 {
-    match inside {
-        [] => None,
-        [b, ..] => {
-            if !is_digit(*b) {
-                return None;
-            }
-            let (number, rest) = number_at(inside);
-            behind_extent(number, rest)
-        }
+    match bytes {
+        [] => false,
+        [b, ..] => *b == b'x',
     }
 }
 
-/// A tensor's type of rank 1, as `tensor<4xi32>`. None: the text is no such type.
-#[tactic(auto, unfolding(crate::specs::Types::shape_of))]
-pub fn shape_of(text: &[u8]) -> Option<Shape>
-    ensures { result ≡ shape_from (shape_of text.now) }
+/// Whether extents, each followed by `x`, and an integer type stand there.
+fn are_extents(inside: &[u8]) -> bool
+    ensures { result ≡ is_some (extents_in inside.now None) }
+{
+    let mut rest = inside;
+    while begins_with_digit(rest) {
+        let (_, after) = number_at(rest);
+        if !begins_with_x(after) {
+            return false;
+        }
+        let (_, more) = after.split_at(1);
+        rest = more;
+    }
+    width_of(rest).is_some()
+}
+
+/// Extents, each followed by `x`, and an integer type.
+fn extents_inside(alloc: Global, inside: &[u8]) -> Result<Option<RankedShape>, Memory>
+    ensures { IfOk result (λ shape. shape ≡ ranked_from (extents_in inside.now None)) }
+{
+    let mut extents = List::new(alloc);
+    let mut rest = inside;
+    while begins_with_digit(rest) {
+        let (number, after) = number_at(rest);
+        if !begins_with_x(after) {
+            return Ok(None);
+        }
+        let (_, more) = after.split_at(1);
+        extents.push(extent_of(number))?;
+        rest = more;
+    }
+    match width_of(rest) {
+        Some(width) => Ok(Some(RankedShape { extents, width })),
+        None => Ok(None),
+    }
+}
+
+/// Whether the text is a tensor's type of any rank with fixed extents, as `tensor<4x2xi32>` or `tensor<i32>`.
+#[tactic(auto, unfolding(crate::specs::Types::extents_of))]
+pub fn is_ranked(text: &[u8]) -> bool
+    ensures { result ≡ is_some (extents_of text.now) }
+{
+    is_shaped(b"tensor<", text) && are_extents(inside(text))
+}
+
+/// A tensor's type of any rank with fixed extents. None: the text is no such type.
+#[tactic(auto, unfolding(crate::specs::Types::extents_of))]
+pub fn ranked_of(alloc: Global, text: &[u8]) -> Result<Option<RankedShape>, Memory>
+    ensures { IfOk result (λ shape. shape ≡ ranked_from (extents_of text.now)) }
 {
     if is_shaped(b"tensor<", text) {
-        shape_inside(inside(text))
+        extents_inside(alloc, inside(text))
     } else {
-        None
+        Ok(None)
     }
 }
 
@@ -285,6 +313,14 @@ fn is_other_element(text: &[u8]) -> bool
     ensures { result ≡ is_other_element text.now }
 {
     is_type_word(text) && width_of(text).is_none()
+}
+
+/// Whether the text is a tensor's type with elements `i1` to `i64`, where an extent may be `?`.
+#[tactic(auto, unfolding(crate::specs::Types::is_any_tensor))]
+pub fn is_any_tensor(text: &[u8]) -> bool
+    ensures { result ≡ is_any_tensor text.now }
+{
+    is_shaped(b"tensor<", text) && width_of(element_at(inside(text))).is_some()
 }
 
 /// Whether the text is a shaped type whose elements aren't `i1` to `i64`.

@@ -3,6 +3,7 @@
 ghost use Rattle.std.specs.Prelude.{◌≡◌};
 ghost use Rattle.std.specs.List.{list_any};
 ghost use Rattle.std.specs.Str.{bytes_eq};
+ghost use Rattle.text_format.specs.Classes.{Booleans, Iterators, Predicates, Binaries, Casts, Items, MapMarks, DenseMarks, texts_of};
 ghost use Rattle.text_format.specs.Words.{is_among, profile_words, is_unbuilt, structure_words, keyword_words, tensor_words, loop_words, arith_words, choice_words, script_words, script_keyword_words, unbuilt_statements, unbuilt_operations, unbuilt_elementwise, unbuilt_steps};
 
 use crate::class::Position;
@@ -113,6 +114,50 @@ const CHOICE_WORDS: [&str; 19] = [
     "xor", "maxsi", "maxui", "minsi", "minui",
 ];
 
+/// Words with which an item of a file begins.
+const ITEM_WORDS: [&str; 2] = ["func.func", "module"];
+
+/// Truth values.
+const BOOLEAN_WORDS: [&str; 2] = ["true", "false"];
+
+/// The quoted iterator types.
+const ITERATOR_TEXTS: [&str; 2] = ["\"parallel\"", "\"reduction\""];
+
+/// The predicates of a comparison.
+const PREDICATE_WORDS: [&str; 10] = [
+    "eq", "ne", "slt", "sle", "sgt", "sge", "ult", "ule", "ugt", "uge",
+];
+
+/// Operations on two integers.
+const BINARY_WORDS: [&str; 17] = [
+    "arith.addi",
+    "arith.subi",
+    "arith.muli",
+    "arith.divsi",
+    "arith.divui",
+    "arith.remsi",
+    "arith.remui",
+    "arith.andi",
+    "arith.ori",
+    "arith.xori",
+    "arith.shli",
+    "arith.shrsi",
+    "arith.shrui",
+    "arith.maxsi",
+    "arith.maxui",
+    "arith.minsi",
+    "arith.minui",
+];
+
+/// Operations that change an integer's width.
+const CAST_WORDS: [&str; 3] = ["arith.extsi", "arith.extui", "arith.trunci"];
+
+/// The marks of a map's text, without the `<` and `>` around it.
+const MAP_MARKS: [&str; 9] = ["(", ")", "[", "]", ",", "->", "+", "-", "*"];
+
+/// The marks of a dense literal's text, without the `<` and `>` around it.
+const DENSE_MARKS: [&str; 4] = ["-", "[", "]", ","];
+
 /// Words of scripts.
 const SCRIPT_WORDS: [&str; 15] = [
     "transform.named_sequence",
@@ -149,17 +194,12 @@ const SCRIPT_KEYWORD_WORDS: [&str; 9] = [
 const UNBUILT_STATEMENTS: [&str; 2] = ["scf.for", "scf.forall"];
 
 /// Operations that are not read yet behind the results of an operation in a function.
-const UNBUILT_OPERATIONS: [&str; 18] = [
+const UNBUILT_OPERATIONS: [&str; 13] = [
     "affine.apply",
     "affine.min",
     "tensor.extract_slice",
     "tensor.insert_slice",
     "tensor.pad",
-    "linalg.fill",
-    "linalg.matmul",
-    "linalg.batch_matmul",
-    "linalg.transpose",
-    "linalg.broadcast",
     "linalg.pack",
     "linalg.unpack",
     "scf.for",
@@ -171,8 +211,7 @@ const UNBUILT_OPERATIONS: [&str; 18] = [
 ];
 
 /// Arithmetic that is not read yet there.
-const UNBUILT_ELEMENTWISE: [&str; 23] = [
-    "arith.constant",
+const UNBUILT_ELEMENTWISE: [&str; 22] = [
     "arith.addi",
     "arith.subi",
     "arith.muli",
@@ -198,33 +237,7 @@ const UNBUILT_ELEMENTWISE: [&str; 23] = [
 ];
 
 /// Operations that are not read yet behind the result of a step in a payload.
-const UNBUILT_STEPS: [&str; 25] = [
-    "arith.constant",
-    "arith.subi",
-    "arith.muli",
-    "arith.divsi",
-    "arith.divui",
-    "arith.remsi",
-    "arith.remui",
-    "arith.andi",
-    "arith.ori",
-    "arith.xori",
-    "arith.shli",
-    "arith.shrsi",
-    "arith.shrui",
-    "arith.maxsi",
-    "arith.maxui",
-    "arith.minsi",
-    "arith.minui",
-    "arith.cmpi",
-    "arith.select",
-    "arith.extsi",
-    "arith.extui",
-    "arith.trunci",
-    "arith.index_cast",
-    "linalg.index",
-    "affine.apply",
-];
+const UNBUILT_STEPS: [&str; 1] = ["affine.apply"];
 
 /// Whether the text is one of the words.
 fn is_among(words: &[&str], text: &[u8]) -> bool
@@ -304,21 +317,77 @@ fn is_unbuilt_statement(text: &[u8]) -> bool
 fn is_unbuilt_operation(text: &[u8]) -> bool
     ensures { result ≡ is_among unbuilt_operations text.now }
 {
-    let words: [&str; 18] = UNBUILT_OPERATIONS;
+    let words: [&str; 13] = UNBUILT_OPERATIONS;
     is_among(words.as_slice(), text)
 }
 
 fn is_unbuilt_elementwise(text: &[u8]) -> bool
     ensures { result ≡ is_among unbuilt_elementwise text.now }
 {
-    let words: [&str; 23] = UNBUILT_ELEMENTWISE;
+    let words: [&str; 22] = UNBUILT_ELEMENTWISE;
     is_among(words.as_slice(), text)
 }
 
 fn is_unbuilt_step(text: &[u8]) -> bool
     ensures { result ≡ is_among unbuilt_steps text.now }
 {
-    let words: [&str; 25] = UNBUILT_STEPS;
+    let words: [&str; 1] = UNBUILT_STEPS;
+    is_among(words.as_slice(), text)
+}
+
+pub fn is_item_word(text: &[u8]) -> bool
+    ensures { result ≡ is_among (texts_of Items) text.now }
+{
+    let words: [&str; 2] = ITEM_WORDS;
+    is_among(words.as_slice(), text)
+}
+
+pub fn is_boolean_word(text: &[u8]) -> bool
+    ensures { result ≡ is_among (texts_of Booleans) text.now }
+{
+    let words: [&str; 2] = BOOLEAN_WORDS;
+    is_among(words.as_slice(), text)
+}
+
+pub fn is_iterator(text: &[u8]) -> bool
+    ensures { result ≡ is_among (texts_of Iterators) text.now }
+{
+    let words: [&str; 2] = ITERATOR_TEXTS;
+    is_among(words.as_slice(), text)
+}
+
+pub fn is_predicate(text: &[u8]) -> bool
+    ensures { result ≡ is_among (texts_of Predicates) text.now }
+{
+    let words: [&str; 10] = PREDICATE_WORDS;
+    is_among(words.as_slice(), text)
+}
+
+pub fn is_binary_name(text: &[u8]) -> bool
+    ensures { result ≡ is_among (texts_of Binaries) text.now }
+{
+    let words: [&str; 17] = BINARY_WORDS;
+    is_among(words.as_slice(), text)
+}
+
+pub fn is_cast_name(text: &[u8]) -> bool
+    ensures { result ≡ is_among (texts_of Casts) text.now }
+{
+    let words: [&str; 3] = CAST_WORDS;
+    is_among(words.as_slice(), text)
+}
+
+pub fn is_map_mark(text: &[u8]) -> bool
+    ensures { result ≡ is_among (texts_of MapMarks) text.now }
+{
+    let words: [&str; 9] = MAP_MARKS;
+    is_among(words.as_slice(), text)
+}
+
+pub fn is_dense_mark(text: &[u8]) -> bool
+    ensures { result ≡ is_among (texts_of DenseMarks) text.now }
+{
+    let words: [&str; 4] = DENSE_MARKS;
     is_among(words.as_slice(), text)
 }
 
@@ -342,7 +411,10 @@ pub fn is_unbuilt(position: Position, text: &[u8]) -> bool
     ensures { result ≡ is_unbuilt position text.now }
 {
     match position {
-        Position::Item | Position::PayloadStatement => false,
+        Position::Item
+        | Position::PayloadStatement
+        | Position::ScriptStatement
+        | Position::ScriptStep => false,
         Position::Statement => is_unbuilt_statement(text),
         Position::Operation => is_unbuilt_operation(text) || is_unbuilt_elementwise(text),
         Position::PayloadStep => is_unbuilt_step(text),
