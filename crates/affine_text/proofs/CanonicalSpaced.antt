@@ -139,7 +139,7 @@ unfolding map_front dimensions results
 front_well c m d h =
     let ds = items_well (declared_from c 0 m.dims) (declared_well c 0 m.dims (omega (arith, d))) in
     let rs = items_well (map (expression c) m.results) (expressions_well c m.dims m.results d h) in
-    fixed_word lexemes.AffineMap (fixed_opens lexemes.Less refl) (fixed_closed lexemes.Less refl (fixed_closed lexemes.OpenParenthesis refl
+    fixed_word lexemes.AffineMap refl (fixed_opens lexemes.Less refl) (fixed_closed lexemes.Less refl (fixed_closed lexemes.OpenParenthesis refl
     (append_apart (dimensions c m.dims).pieces _ ds (fixed_opens lexemes.CloseParenthesis refl) (fixed_closed lexemes.CloseParenthesis refl (spacing.space (fixed_closed lexemes.Arrow refl (spacing.space (fixed_closed lexemes.OpenParenthesis refl
     (append_apart (results c m.results).pieces _ rs (fixed_opens lexemes.CloseParenthesis refl) (fixed_closed lexemes.CloseParenthesis refl none_apart))))))))))
 

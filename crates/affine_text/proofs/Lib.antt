@@ -13,7 +13,7 @@ mod Forward
 mod GoesOn
 mod HasRead
 mod Levels
-mod Lists
+pub mod Lists
 mod MapRule
 mod Multiplying
 mod Numbers

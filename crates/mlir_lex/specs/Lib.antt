@@ -1,2 +1,4 @@
+pub mod Chain
+pub mod Faults
 pub mod Lexed
 pub mod Refusals
