@@ -21,12 +21,13 @@ use Rattle.mlir_verify.specs.Place.{Place, Types, place_at, places_of, places_fr
 use Rattle.mlir_verify.specs.Names.{is_among, repeats, in_scope, breaks_names, breaks_own_names, defined_by, defined_in, defined_at, ids, ids_at, numbers, repeats_params}
 use Rattle.mlir_verify.specs.Rules.{broken, stands_at, first_broken, first_broken_of, AnswersVerify}
 use Rattle.mlir_ir.specs.declared.tree.Module.{Module}
-use Rattle.mlir_verify.specs.Scope.{types_in, IsSet, Adds}
+use Rattle.mlir_verify.specs.Scope.{types_in, constants_in, IsSet, Adds}
+use Rattle.mlir_verify.specs.Constants.{Constants, constants_before, constants_at, constants_of}
 use Rattle.mlir_verify.specs.Stages.{broken_below}
 use Rattle.mlir_verify.specs.Walk.{NamesOp, Stands, IsBefore, ChecksOp, ChecksFunc, ChecksFuncs, EntersFunc}
 use Rattle.mlir_verify.proofs.Adding.{set_at}
 use Rattle.mlir_verify.proofs.Lowest.{broken-at}
-use Rattle.mlir_verify.proofs.Standing.{defined_at-last, defined_in-last, ids-last, ids_at-last, scope_at-last, type_among-append, first_broken_of-append, first-None}
+use Rattle.mlir_verify.proofs.Standing.{defined_at-last, defined_in-last, ids-last, ids_at-last, scope_at-last, constants_at-last, type_among-append, first_broken_of-append, first-None}
 use Rattle.mlir_verify.proofs.Walks.{opened}
 
 names_decide : (p : Place) → repeats_params p.before p.func ≡ false → breaks_names p ≡ breaks_own_names (type_of p) p.op (defined_at p.before p.func p.earlier) (ids_at p.before p.earlier)
@@ -47,6 +48,10 @@ same_types : (seen : Seen) (scope : Scope) (before : List FuncShape) (f : FuncSh
     types_in scope ≡ type_of (place_at before f earlier o later)
 same_types seen scope before f earlier o later s = λ j v. s.types v j
 
+same_constants : (seen : Seen) (scope : Scope) (before : List FuncShape) (f : FuncShape) (earlier : List Op) (o : Op) (later : List Op) → Stands seen scope before f earlier →
+    constants_in scope ≡ constants_before (place_at before f earlier o later)
+same_constants seen scope before f earlier o later s = λ j v. s.constants v j
+
 pub op_breaks_names : (seen new : Seen) (scope : Scope) (before : List FuncShape) (f : FuncShape) (earlier : List Op) (o : Op) (later : List Op) (b : Bool) →
     Stands seen scope before f earlier → b ≡ false → Named b seen new scope o → broken (place_at before f earlier o later) ≡ Some V1
 op_breaks_names seen new scope before f earlier o later false s t n =
@@ -54,35 +59,37 @@ op_breaks_names seen new scope before f earlier o later false s t n =
     let h = names_decide p s.params
     ∙ sym (ap (λ (x : Types). breaks_own_names x o (defined_at before f earlier) (ids_at before earlier)) (same_types seen scope before f earlier o later s))
     ∙ n (defined_at before f earlier) (ids_at before earlier) s.values s.ops in
-    broken-at p ∙ ap (λ c. if c then Some V1 else broken_below (is_first p) (is_last p) (type_of p) p.func p.op) h
+    broken-at p ∙ ap (λ c. if c then Some V1 else broken_below (is_first p) (is_last p) (type_of p) (constants_before p) p.func p.op) h
 op_breaks_names seen new scope before f earlier o later true s t n = absurd (let q : true ≡ false = t in cc)
 
 pub op_broken : (seen new : Seen) (scope : Scope) (before : List FuncShape) (f : FuncShape) (earlier : List Op) (o : Op) (later : List Op) (b first_ last_ : Bool) →
     Stands seen scope before f earlier → b ≡ true → Named b seen new scope o → is_empty earlier ≡ first_ → is_empty later ≡ last_ →
-    broken (place_at before f earlier o later) ≡ broken_below first_ last_ (types_in scope) f o
+    broken (place_at before f earlier o later) ≡ broken_below first_ last_ (types_in scope) (constants_in scope) f o
 op_broken seen new scope before f earlier o later true first_ last_ s t n e g =
     let p : Place = place_at before f earlier o later in
     let ty = same_types seen scope before f earlier o later s in
     let h = names_decide p s.params
     ∙ sym (ap (λ (x : Types). breaks_own_names x o (defined_at before f earlier) (ids_at before earlier)) ty)
     ∙ (n (defined_at before f earlier) (ids_at before earlier) s.values s.ops).0 in
-    broken-at p ∙ ap (λ c. if c then Some V1 else broken_below (is_first p) (is_last p) (type_of p) p.func p.op) h
-    ∙ (λ j. broken_below (e j) (g j) (type_of p) f o) ∙ sym (ap (λ (x : Types). broken_below first_ last_ x f o) ty)
+    broken-at p ∙ ap (λ c. if c then Some V1 else broken_below (is_first p) (is_last p) (type_of p) (constants_before p) p.func p.op) h
+    ∙ (λ j. broken_below (e j) (g j) (type_of p) (constants_before p) f o) ∙ sym (λ j. broken_below first_ last_ (ty j) (same_constants seen scope before f earlier o later s j) f o)
 op_broken seen new scope before f earlier o later false first_ last_ s t n e g = absurd (let q : false ≡ true = t in cc)
 
 pub op_stands : (seen new : Seen) (scope after : Scope) (before : List FuncShape) (f : FuncShape) (earlier : List Op) (o : Op) (b : Bool) →
     Stands seen scope before f earlier → b ≡ true → Named b seen new scope o →
-    ((v : ℕ) → types_in after v ≡ first (type_among o.results v) (types_in scope v)) → Stands new after before f (earlier ++ o ∷ [])
-op_stands seen new scope after before f earlier o true s t n g =
+    ((v : ℕ) → types_in after v ≡ first (type_among o.results v) (types_in scope v)) →
+    ((known : List ℕ) → IsSet scope.constants known → IsSet after.constants (known ++ constants_of o)) → Stands new after before f (earlier ++ o ∷ [])
+op_stands seen new scope after before f earlier o true s t n g k =
     let a = n (defined_at before f earlier) (ids_at before earlier) s.values s.ops in
     record {
       values = set_at new.values _ _ (sym (defined_at-last before f earlier o)) a.1;
       ops = set_at new.ops _ _ (sym (ids_at-last before earlier o)) a.2;
       types = λ v. g v ∙ ap (first (type_among o.results v)) (s.types v) ∙ sym (type_among-append (scope_at f earlier) o.results v)
           ∙ ap (λ l. type_among l v) (sym (scope_at-last f earlier o));
+      constants = set_at after.constants _ _ (sym (constants_at-last earlier o)) (k (constants_at earlier) s.constants);
       params = s.params;
     }
-op_stands seen new scope after before f earlier o false s t n g = absurd (let q : false ≡ true = t in cc)
+op_stands seen new scope after before f earlier o false s t n g k = absurd (let q : false ≡ true = t in cc)
 
 -- the places that are left open at the next operation
 pub places_open : (os : List Op) (i : ℕ) (o : Op) (before : List FuncShape) (f : FuncShape) → i < length os → o ≡ get_or os i o →
@@ -124,17 +131,19 @@ params_fail [] o before f h e r = absurd (omega arith)
 params_fail (x ∷ os) o before f h e r =
     let p : Place = place_at before f [] x os in
     let b : breaks_names p ≡ true = ap (λ c. c || breaks_own_names (type_of p) x (defined_at before f []) (ids_at before [])) r in
-    let k : broken p ≡ Some V1 = broken-at p ∙ ap (λ c. if c then Some V1 else broken_below (is_first p) (is_last p) (type_of p) p.func p.op) b in
+    let k : broken p ≡ Some V1 = broken-at p ∙ ap (λ c. if c then Some V1 else broken_below (is_first p) (is_last p) (type_of p) (constants_before p) p.func p.op) b in
     ap (λ (c : Option Rule). stands_at x.id c (first_broken_of (places_of os ([] ++ x ∷ []) before f))) k ∙ ap (λ (y : Op). Some (V1, y.id)) (sym e)
 
 -- what is known at the start of a function
 pub func_stands : (seen : Seen) (scope after : Scope) (before : List FuncShape) (f : FuncShape) (ops : BTreeSet ℕ) → IsSet ops (flat_map (λ (g : FuncShape). ids g.body) before) → seen.ops ≡ ops →
     IsSet seen.values (defined_in before ++ numbers f.params) → repeats_params before f ≡ false →
-    ((v : ℕ) → types_in scope v ≡ None) → ((v : ℕ) → types_in after v ≡ first (type_among f.params v) (types_in scope v)) → Stands seen after before f []
-func_stands seen scope after before f ops s o v r n t = record {
+    ((v : ℕ) → types_in scope v ≡ None) → ((v : ℕ) → types_in after v ≡ first (type_among f.params v) (types_in scope v)) →
+    IsSet scope.constants [] → after.constants ≡ scope.constants → Stands seen after before f []
+func_stands seen scope after before f ops s o v r n t c e = record {
   values = set_at seen.values _ _ (sym (append-nil (defined_in before ++ numbers f.params))) v;
   ops = set_at seen.ops _ _ (sym (append-nil (flat_map (λ (g : FuncShape). ids g.body) before))) (subst (λ (x : BTreeSet ℕ). IsSet x (flat_map (λ (g : FuncShape). ids g.body) before)) (sym o) s);
   types = λ q. t q ∙ ap (first (type_among f.params q)) (n q) ∙ first-None (type_among f.params q) ∙ ap (λ l. type_among l q) (sym (append-nil f.params));
+  constants = subst (λ (x : BTreeSet ℕ). IsSet x []) (sym e) c;
   params = r;
 }
 

@@ -1,4 +1,6 @@
 pub mod Walks
+pub mod Elements
+pub mod Broadcasts
 pub mod Adding
 pub mod Lowest
 pub mod Scopes

@@ -10,6 +10,7 @@ use Rattle.mlir_ir.specs.declared.tree.ValueId.{ValueId}
 use Rattle.mlir_verify.specs.declared.rule.Rule.{Rule}
 use Rattle.mlir_verify.specs.Place.{Place, type_among, scope_at}
 use Rattle.mlir_verify.specs.Names.{defined_by, defined_in, defined_at, ids, ids_at, numbers}
+use Rattle.mlir_verify.specs.Constants.{constants_at, constants_of}
 use Rattle.mlir_verify.specs.Rules.{broken, stands_at, first_broken_of}
 use Rattle.mlir_verify.proofs.Walks.{first-assoc}
 
@@ -60,3 +61,6 @@ first_broken_of-append (p ∷ ps) qs = by_rule (broken p) (first_broken_of-appen
       stands_at p.op.id o (first_broken_of (ps ++ qs)) ≡ first (stands_at p.op.id o (first_broken_of ps)) (first_broken_of qs)
   by_rule None e = e
   by_rule (Some r) e = refl
+
+pub constants_at-last : (os : List Op) (o : Op) → constants_at (os ++ o ∷ []) ≡ constants_at os ++ constants_of o
+constants_at-last os o = flat_map_last constants_of os o

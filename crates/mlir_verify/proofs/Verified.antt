@@ -13,7 +13,7 @@ use Rattle.mlir_verify.specs.declared.rule.Rule.{Rule}
 use Rattle.mlir_verify.specs.Place.{Place, places, type_of, is_first}
 use Rattle.mlir_verify.specs.Names.{breaks_names, in_scope, is_among, repeats_params, ids_at}
 use Rattle.mlir_verify.specs.Maps.{axes}
-use Rattle.mlir_verify.specs.Extents.{axes_agree, breaks_extents}
+use Rattle.mlir_verify.specs.Extents.{axes_agree, keeps_extents, breaks_extents}
 use Rattle.mlir_verify.specs.Rules.{broken, fails, lowest, rules_in_order, stands_at, first_broken, first_broken_of, IsVerified}
 
 -- P holds of each item
@@ -73,7 +73,7 @@ operands_are_in_scope p e =
 -- the axes that one dimension selects have equal extents
 pub axes_are_equal : (p : Place) (maps : List MapShape) (iterators : List Iter) (ins : List ValueId) (outs : ValueId) (captured : List ValueId) (payload : PayloadShape) →
     p.op.kind ≡ Generic maps iterators ins outs captured payload → broken p ≡ None → axes_agree (axes (type_of p) maps ins outs) ≡ true
-unfolding breaks_extents
+unfolding breaks_extents keeps_extents
 axes_are_equal p maps iterators ins outs captured payload k e =
     let v7 = (all_pass p e).1.1.1.1.1.1.0 in
     let h : breaks_extents (type_of p) p.func.results p.op.results (Generic maps iterators ins outs captured payload) ≡ false =

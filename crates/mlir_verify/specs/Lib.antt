@@ -1,9 +1,15 @@
 pub mod Place
 pub mod Names
+pub mod Tensors
 pub mod Built
+pub mod Constants
+pub mod Named
 pub mod Types
+pub mod Ends
 pub mod Maps
 pub mod Extents
+pub mod Windows
+pub mod Limits
 pub mod Rules
 pub mod Stages
 pub mod Scope

@@ -10,15 +10,10 @@ use Rattle.mlir_ir.specs.declared.tree.Iter.{Iter}
 use Rattle.mlir_ir.specs.declared.tree.Iter.TheVariants.{Parallel, Reduction}
 use Rattle.mlir_ir.specs.declared.tree.OpKind.{OpKind, Generic}
 use Rattle.mlir_ir.specs.declared.tree.Ty.{Ty}
-use Rattle.mlir_ir.specs.declared.tree.Ty.TheVariants.{Tensor}
 use Rattle.mlir_ir.specs.declared.tree.ValueId.{ValueId}
 use Rattle.mlir_verify.specs.Place.{Types}
+use Rattle.mlir_verify.specs.Tensors.{extents_of}
 use Rattle.mlir_verify.specs.Names.{is_among}
-
--- the extents of a tensor
-abbrev pub extents_of : Option Ty → List Extent
-extents_of (Some (Tensor extents w)) = extents
-extents_of _ = []
 
 -- the last map is the output's
 abbrev pub output_map : List MapShape → Option MapShape
@@ -27,7 +22,7 @@ output_map maps = slice_get maps (length maps - 1)
 abbrev pub is_not_negative : Expr → Bool
 is_not_negative e = int_le (pos 0) e.constant && list_all (λ t. int_le (pos 0) t.1) e.terms
 
--- one dimension for each iterator, one result for each axis, and no negative number
+-- one dimension for each iterator, one result for each axis, and no negative number; a scalar has no axis
 abbrev pub fits_operand : ℕ → MapShape → Option Ty → Bool
 fits_operand dims m ty = (m.dims == dims && length m.results == length (extents_of ty)) && list_all is_not_negative m.results
 

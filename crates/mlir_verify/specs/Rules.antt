@@ -8,11 +8,14 @@ use Rattle.mlir_verify.specs.declared.rule.Refused.{Refused}
 use Rattle.mlir_verify.specs.declared.rule.Refused.TheVariants as Refusal
 use Rattle.mlir_verify.specs.Place.{Place, places, type_of}
 use Rattle.mlir_verify.specs.Names.{breaks_names}
-use Rattle.mlir_verify.specs.Types.{breaks_types, breaks_end, breaks_signature}
+use Rattle.mlir_verify.specs.Types.{breaks_types}
+use Rattle.mlir_verify.specs.Ends.{breaks_end, breaks_signature}
 use Rattle.mlir_verify.specs.Maps.{breaks_maps, breaks_iterators}
 use Rattle.mlir_verify.specs.Extents.{breaks_extents}
+use Rattle.mlir_verify.specs.Windows.{breaks_windows}
+use Rattle.mlir_verify.specs.Limits.{breaks_limits}
 
--- whether a rule fails at a place; the rules from V8 on speak of no operation that is built
+-- whether a rule fails at a place; V9 to V13 speak of no operation that is built
 abbrev pub fails : Rule → Place → Bool
 fails V1 p = breaks_names p
 fails V2 p = breaks_types p
@@ -21,6 +24,8 @@ fails V4 p = breaks_signature p
 fails V5 p = breaks_maps (type_of p) p.op.kind
 fails V6 p = breaks_iterators p.op.kind
 fails V7 p = breaks_extents (type_of p) p.func.results p.op.results p.op.kind
+fails V8 p = breaks_windows (type_of p) p.op.kind
+fails V14 p = breaks_limits p
 fails _ p = false
 
 abbrev pub rules_in_order : List Rule

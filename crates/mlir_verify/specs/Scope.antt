@@ -1,4 +1,4 @@
--- What a walk over the operations keeps: which numbers were defined, and the types of the values in scope.
+-- What a walk over the operations keeps: which numbers were defined, the types of the values in scope, and which are constants.
 use Rattle.std.specs.Prelude.{◌≡◌, ℕ, Bool, true, false, List, ◌++◌, Result, Ok, Err, ⊤, option_copied}
 use Rattle.std.specs.BTreeMap as tree
 use Rattle.std.specs.BTreeSet as sorted
@@ -7,10 +7,14 @@ use Rattle.std.specs.Ordering.{nat_cmp}
 use Rattle.mlir_verify.specs.declared.scope.Scope.{Scope}
 use Rattle.payload_ops.specs.declared.memory.Memory.{Memory}
 use Rattle.mlir_verify.specs.Place.{Types}
+use Rattle.mlir_verify.specs.Constants.{Constants}
 use Rattle.mlir_verify.specs.Names.{is_among, repeats}
 
 abbrev pub types_in : Scope → Types
 types_in s v = option_copied (tree.get nat_cmp s.types v)
+
+abbrev pub constants_in : Scope → Constants
+constants_in s v = sorted.contains nat_cmp s.constants v
 
 -- a set that has these numbers and no others
 abbrev pub IsSet : BTreeSet ℕ → List ℕ → Type 0

@@ -10,6 +10,7 @@ use Rattle.mlir_verify.specs.declared.scope.Scope.{Scope}
 use Rattle.mlir_verify.specs.declared.walk.Seen.{Seen}
 use Rattle.mlir_verify.specs.Place.{Place, Types, places_of, places_from, scope_at, type_among}
 use Rattle.mlir_verify.specs.Names.{breaks_own_names, defined_by, defined_in, defined_at, ids, ids_at, repeats_params}
+use Rattle.mlir_verify.specs.Constants.{constants_at}
 use Rattle.mlir_verify.specs.Rules.{broken, first_broken_of}
 use Rattle.mlir_verify.specs.Scope.{types_in, IsSet}
 
@@ -29,6 +30,7 @@ pub record Stands (seen : Seen) (scope : Scope) (before : List FuncShape) (f : F
   pub values : IsSet seen.values (defined_at before f earlier)
   pub ops : IsSet seen.ops (ids_at before earlier)
   pub types : (v : ℕ) → types_in scope v ≡ type_among (scope_at f earlier) v
+  pub constants : IsSet scope.constants (constants_at earlier)
   pub params : repeats_params before f ≡ false
 
 abbrev pub ChecksOp : Result (Unit {0}) Refused → Seen → Scope → Place → Type 0

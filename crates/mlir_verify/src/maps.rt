@@ -1,26 +1,17 @@
 ghost use Rattle.std.specs.Prelude.{◌≡◌, ℕ, List, [], ◌∷◌, ◌++◌, pos, int_le, IfOk, OnOk, option_copied};
 ghost use Rattle.std.specs.List.{list_all, zip, enumerate_from};
-ghost use Rattle.mlir_verify.specs.Maps.{extents_of, is_not_negative, fits_operand, is_iterator};
+ghost use Rattle.mlir_verify.specs.Maps.{is_not_negative, fits_operand, is_iterator};
 ghost use Rattle.affine_maps.specs.Permutation.{dimensions_of};
 ghost use Rattle.mlir_verify.specs.Scope.{types_in, IsSet};
 ghost use Rattle.mlir_verify.specs.Stages.{IsPermuted, is_in};
 
 use crate::scope::Scope;
+use crate::tensors::extents_of;
 use affine_maps::{AffineMap, Expr};
-use mlir_ir::{Extent, Iter, Ty, ValueId};
+use mlir_ir::{Iter, Ty, ValueId};
 use payload_ops::Memory;
 use std::alloc::Global;
 use std::collections::BTreeSet;
-
-/// The extents of a tensor.
-pub(crate) fn extents_of<'a>(ty: Option<&'a Ty>) -> &'a [Extent]
-    ensures { result.now ≡ extents_of (option_copied ty.entry) }
-{
-    match ty {
-        Some(Ty::Tensor { extents, .. }) => extents.as_slice(),
-        _ => &[],
-    }
-}
 
 fn has_no_negative_term(terms: &[(u32, i64)]) -> bool
     ensures { result ≡ list_all (λ t. int_le (pos 0) t.1) terms.now }

@@ -1,53 +1,17 @@
 ghost use Rattle.std.specs.Prelude.{◌≡◌, option_copied};
 ghost use Rattle.std.specs.List.{list_all, zip};
-ghost use Rattle.mlir_verify.specs.Scope.{types_in};
-ghost use Rattle.mlir_verify.specs.Types.{has_elements, is_alike, result_type, names_present, is_typed_payload, is_typed_generic, is_typed_return, is_typed, is_return};
+ghost use Rattle.mlir_verify.specs.Scope.{types_in, constants_in};
+ghost use Rattle.mlir_verify.specs.Tensors.{is_alike};
+ghost use Rattle.mlir_verify.specs.Named.{is_typed_product, is_typed_transpose, is_typed_broadcast};
+ghost use Rattle.mlir_verify.specs.Types.{names_present, is_input, is_typed_payload, is_typed_generic, is_typed_return, gives_output, is_typed};
 
+use crate::constants::has_cells;
+use crate::named::{is_typed_broadcast, is_typed_fill, is_typed_product, is_typed_transpose};
 use crate::scope::Scope;
+use crate::tensors::{has_elements, is_alike, is_tensor, result_type};
 use affine_maps::AffineMap;
 use mlir_ir::{Func, Iter, Op, OpKind, Ty, ValueId};
 use payload_ops::{ElemTy, Payload, PayloadStep, StepOp};
-
-fn has_elements(ty: Option<&Ty>, elem: &ElemTy) -> bool
-    ensures { result ≡ has_elements (option_copied ty.entry) elem.now }
-{
-    match (ty, elem) {
-        (Some(Ty::Tensor { elem: v, .. }), ElemTy::Int(w)) => v.bits() == w.bits(),
-        _ => false,
-    }
-}
-
-fn is_alike(s: Option<&Ty>, t: Option<&Ty>) -> bool
-    ensures { result ≡ is_alike (option_copied s.entry) (option_copied t.entry) }
-{
-    match (s, t) {
-        (
-            Some(
-                Ty::Tensor {
-                    extents: xs,
-                    elem: v,
-                },
-            ),
-            Some(
-                Ty::Tensor {
-                    extents: ys,
-                    elem: w,
-                },
-            ),
-        ) => { v.bits() == w.bits() && xs.as_slice().len() == ys.as_slice().len() }
-        _ => false,
-    }
-}
-
-/// The type of the one result.
-pub(crate) fn result_type(results: &[(ValueId, Ty)]) -> Option<&Ty>
-    ensures { option_copied result ≡ result_type results.now }
-{
-    match results {
-        [r] => Some(&r.1),
-        _ => None,
-    }
-}
 
 fn names_present(dims: usize, captured: usize, op: &StepOp) -> bool
     ensures { result ≡ names_present dims captured op.now }
@@ -59,18 +23,26 @@ fn names_present(dims: usize, captured: usize, op: &StepOp) -> bool
     }
 }
 
-fn have_elements(scope: &Scope, ins: &[ValueId], elems: &[ElemTy]) -> bool
-    ensures { result ≡ list_all (λ x. has_elements (types_in scope.now (x.0).0) x.1) (zip ins.now elems.now) }
-{
-    ins.iter()
-        .zip(elems)
-        .all(|(v, elem)| has_elements(scope.type_of(*v), elem))
-}
-
-fn name_present(dims: usize, captured: usize, steps: &[PayloadStep]) -> bool
+fn are_present(dims: usize, captured: usize, steps: &[PayloadStep]) -> bool
     ensures { result ≡ list_all (λ s. names_present dims captured s.op) steps.now }
 {
     steps.iter().all(|s| names_present(dims, captured, &s.op))
+}
+
+fn is_input(ty: Option<&Ty>, constant: bool, elem: &ElemTy) -> bool
+    ensures { result ≡ is_input (option_copied ty.entry) constant elem.now }
+{
+    match (ty, elem) {
+        (Some(Ty::Tensor { elem: v, .. }), ElemTy::Int(w)) => v.bits() == w.bits(),
+        (Some(Ty::Scalar(ElemTy::Int(v))), ElemTy::Int(w)) => v.bits() == w.bits() && constant,
+        _ => false,
+    }
+}
+
+fn are_inputs(scope: &Scope, ins: &[ValueId], elems: &[ElemTy]) -> bool
+    ensures { result ≡ list_all (λ x. is_input (types_in scope.now (x.0).0) (constants_in scope.now (x.0).0) x.1) (zip ins.now elems.now) }
+{
+    ins.iter().zip(elems).all(|(v, elem)| is_input(scope.type_of(*v), scope.is_constant(*v), elem))
 }
 
 fn is_typed_payload(
@@ -81,12 +53,50 @@ fn is_typed_payload(
     captured: &[ValueId],
     payload: &Payload,
 ) -> bool
-    ensures { result ≡ is_typed_payload (types_in scope.now) dims ins.now outs captured.now payload.now }
+    ensures { result ≡ is_typed_payload (types_in scope.now) (constants_in scope.now) dims ins.now outs captured.now payload.now }
 {
     let elems = payload.ins().as_slice();
-    (ins.len() == elems.len() && have_elements(scope, ins, elems))
+    (ins.len() == elems.len() && are_inputs(scope, ins, elems))
         && (has_elements(scope.type_of(outs), &payload.out())
-            && name_present(dims, captured.len(), payload.steps().as_slice()))
+            && are_present(dims, captured.len(), payload.steps().as_slice()))
+}
+
+fn is_typed_generic(
+    scope: &Scope,
+    maps: &[AffineMap],
+    iterators: &[Iter],
+    ins: &[ValueId],
+    outs: ValueId,
+    captured: &[ValueId],
+    payload: &Payload,
+) -> bool
+    ensures { result ≡ is_typed_generic (types_in scope.now) (constants_in scope.now) maps.now iterators.now ins.now outs captured.now payload.now }
+{
+    (maps.len() == ins.len() + 1 && captured.is_empty())
+        && is_typed_payload(scope, iterators.len(), ins, outs, captured, payload)
+}
+
+fn is_matmul(scope: &Scope, axes: usize, a: ValueId, b: ValueId, outs: ValueId) -> bool
+    ensures { result ≡ is_typed_product axes (types_in scope.now a.0) (types_in scope.now b.0) (types_in scope.now outs.0) }
+{
+    is_typed_product(
+        axes,
+        scope.type_of(a),
+        scope.type_of(b),
+        scope.type_of(outs),
+    )
+}
+
+fn is_transpose(scope: &Scope, order: &[u32], source: ValueId, outs: ValueId) -> bool
+    ensures { result ≡ is_typed_transpose order.now (types_in scope.now source.0) (types_in scope.now outs.0) }
+{
+    is_typed_transpose(order, scope.type_of(source), scope.type_of(outs))
+}
+
+fn is_broadcast(scope: &Scope, dims: &[u32], source: ValueId, outs: ValueId) -> bool
+    ensures { result ≡ is_typed_broadcast dims.now (types_in scope.now source.0) (types_in scope.now outs.0) }
+{
+    is_typed_broadcast(dims, scope.type_of(source), scope.type_of(outs))
 }
 
 fn are_alike(scope: &Scope, values: &[ValueId], wanted: &[Ty]) -> bool
@@ -106,31 +116,23 @@ fn is_typed_return(scope: &Scope, func: &Func, op: &Op, values: &[ValueId]) -> b
         && are_alike(scope, values, wanted)
 }
 
-fn is_typed_generic(
-    scope: &Scope,
-    op: &Op,
-    maps: &[AffineMap],
-    iterators: &[Iter],
-    ins: &[ValueId],
-    outs: ValueId,
-    captured: &[ValueId],
-    payload: &Payload,
-) -> bool
-    ensures { result ≡ is_typed_generic (types_in scope.now) op.now.results maps.now iterators.now ins.now outs captured.now payload.now }
+fn gives_output(scope: &Scope, op: &Op, outs: ValueId) -> bool
+    ensures { result ≡ gives_output (types_in scope.now) op.now.results outs }
 {
-    (maps.len() == ins.len() + 1 && captured.is_empty())
-        && (is_typed_payload(scope, iterators.len(), ins, outs, captured, payload)
-            && is_alike(scope.type_of(outs), result_type(op.results.as_slice())))
+    is_alike(scope.type_of(outs), result_type(op.results.as_slice()))
 }
 
 /// V2 of an operation that is built.
 #[tactic(auto, unfolding(crate::specs::Types::is_typed))]
 pub(crate) fn is_typed(scope: &Scope, func: &Func, op: &Op) -> bool
-    ensures { result ≡ is_typed (types_in scope.now) func.now.results op.now.results op.now.kind }
+    ensures { result ≡ is_typed (types_in scope.now) (constants_in scope.now) func.now.results op.now.results op.now.kind }
 {
     match &op.kind {
+        OpKind::Constant { value } => {
+            has_cells(result_type(op.results.as_slice()), value.as_slice())
+        }
         OpKind::Empty { sizes } => sizes.as_slice().is_empty()
-            && result_type(op.results.as_slice()).is_some(),
+            && is_tensor(result_type(op.results.as_slice())),
         OpKind::Generic {
             maps,
             iterators,
@@ -141,23 +143,36 @@ pub(crate) fn is_typed(scope: &Scope, func: &Func, op: &Op) -> bool
         } => {
             is_typed_generic(
                 scope,
-                op,
                 maps.as_slice(),
                 iterators.as_slice(),
                 ins.as_slice(),
                 *outs,
                 captured.as_slice(),
                 payload,
-            )
+            ) && gives_output(scope, op, *outs)
         }
+        OpKind::Fill { value, outs } => {
+            is_typed_fill(scope, *value, *outs) && gives_output(scope, op, *outs)
+        }
+        OpKind::Matmul { a, b, outs } => {
+            is_matmul(scope, 2, *a, *b, *outs) && gives_output(scope, op, *outs)
+        }
+        OpKind::BatchMatmul { a, b, outs } => {
+            is_matmul(scope, 3, *a, *b, *outs) && gives_output(scope, op, *outs)
+        }
+        OpKind::Transpose {
+            source,
+            outs,
+            order,
+        } => is_transpose(scope, order.as_slice(), *source, *outs)
+            && gives_output(scope, op, *outs),
+        OpKind::Broadcast { source, outs, dims } => is_broadcast(
+            scope,
+            dims.as_slice(),
+            *source,
+            *outs,
+        ) && gives_output(scope, op, *outs),
         OpKind::Return { values } => is_typed_return(scope, func, op, values.as_slice()),
         _ => true,
     }
-}
-
-/// Whether the operation ends a function.
-pub(crate) fn is_return(kind: &OpKind) -> bool
-    ensures { result ≡ is_return kind.now }
-{
-    matches!(kind, OpKind::Return { .. })
 }

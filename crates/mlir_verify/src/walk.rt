@@ -1,21 +1,24 @@
 ghost use Rattle.std.specs.Prelude.{◌≡◌, ◌&&◌, ◌||◌, not, ℕ, List, [], if◌then◌else◌, IfOk};
-ghost use Rattle.mlir_verify.specs.Built.{is_built_op, is_built_func};
-ghost use Rattle.mlir_verify.specs.Types.{is_typed, is_return};
+ghost use Rattle.mlir_verify.specs.Built.{is_built};
+ghost use Rattle.mlir_verify.specs.Types.{is_typed};
+ghost use Rattle.mlir_verify.specs.Ends.{is_return};
 ghost use Rattle.mlir_ir.specs.Shape.{FuncShape};
 ghost use Rattle.mlir_ir.specs.declared.tree.Op.{Op};
 ghost use Rattle.mlir_verify.specs.Place.{place_at, is_empty};
 ghost use Rattle.mlir_verify.specs.Rules.{AnswersVerify};
-ghost use Rattle.mlir_verify.specs.Scope.{types_in, IsSet};
+ghost use Rattle.mlir_verify.specs.Scope.{types_in, constants_in, IsSet};
 ghost use Rattle.mlir_verify.specs.Stages.{broken_below};
 ghost use Rattle.mlir_verify.specs.Walk.{NamesOp, IsBefore, Stands, ChecksOp, EntersFunc, ChecksFunc, ChecksFuncs};
 
-use crate::built::{has_fixed_signature, is_built_func, is_built_op};
+use crate::built::is_built;
 use crate::checked::Checked;
+use crate::ends::{has_fixed_signature, is_return};
+use crate::limits::is_past_limits;
 use crate::names::{add, add_defined, add_definitions, operands_in_scope};
 use crate::rule::{Refused, Rule};
-use crate::scope::Scope;
+use crate::scope::{Scope, define};
 use crate::structured::broken_loops;
-use crate::types::{is_return, is_typed};
+use crate::types::is_typed;
 use mlir_ir::{Func, Module, Op};
 use payload_ops::Memory;
 use std::alloc::Global;
@@ -44,10 +47,10 @@ fn name_op(seen: &mut Seen, scope: &Scope, op: &Op) -> Result<bool, Memory>
     add_defined(&mut seen.values, op)
 }
 
-fn breaks_types(scope: &Scope, func: &Func, op: &Op, first: bool) -> bool
-    ensures { result ≡ not ((is_built_op op.now && (not first || is_built_func func.now)) && is_typed (types_in scope.now) func.now.results op.now.results op.now.kind) }
+fn breaks_types(scope: &Scope, func: &Func, op: &Op) -> bool
+    ensures { result ≡ not (is_built op.now && is_typed (types_in scope.now) (constants_in scope.now) func.now.results op.now.results op.now.kind) }
 {
-    !((is_built_op(op) && (!first || is_built_func(func))) && is_typed(scope, func, op))
+    !(is_built(op) && is_typed(scope, func, op))
 }
 
 fn breaks_end(op: &Op, last: bool) -> bool
@@ -56,7 +59,7 @@ fn breaks_end(op: &Op, last: bool) -> bool
     if is_return(&op.kind) { !last } else { last }
 }
 
-/// The lowest of V2 to V7 that an operation breaks, which is the first or the last of its function as told.
+/// The lowest of V2 to V14 that an operation breaks, which is the first or the last of its function as told.
 #[tactic(auto, unfolding(crate::specs::Stages::broken_below))]
 fn broken_below(
     alloc: Global,
@@ -66,9 +69,9 @@ fn broken_below(
     first: bool,
     last: bool,
 ) -> Result<Option<Rule>, Memory>
-    ensures { IfOk result (λ r. r ≡ broken_below first last (types_in scope.now) func.now op.now) }
+    ensures { IfOk result (λ r. r ≡ broken_below first last (types_in scope.now) (constants_in scope.now) func.now op.now) }
 {
-    if breaks_types(scope, func, op, first) {
+    if breaks_types(scope, func, op) {
         return Ok(Some(Rule::V2));
     }
     if breaks_end(op, last) {
@@ -77,7 +80,17 @@ fn broken_below(
     if first && !has_fixed_signature(func) {
         return Ok(Some(Rule::V4));
     }
-    broken_loops(alloc, scope, func, op)
+    match broken_loops(alloc, scope, func, op) {
+        Ok(None) => {
+            if is_past_limits(func, op, first) {
+                Ok(Some(Rule::V14))
+            } else {
+                Ok(None)
+            }
+        }
+        Ok(Some(rule)) => Ok(Some(rule)),
+        Err(e) => Err(e),
+    }
 }
 
 fn check_op<'a>(
@@ -105,7 +118,7 @@ fn check_op<'a>(
         Ok(Some(rule)) => return Err(Refused::Rule { rule, op: op.id }),
         Err(_) => return Err(Refused::Memory),
     }
-    match scope.bind(op.results.as_slice()) {
+    match define(scope, op) {
         Ok(()) => Ok(()),
         Err(_) => Err(Refused::Memory),
     }
@@ -113,7 +126,7 @@ fn check_op<'a>(
 
 /// Takes in the parameters, which stand at the first operation.
 fn enter_func<'a>(seen: &mut Seen, scope: &mut Scope<'a>, func: &'a Func) -> Result<(), Refused>
-    ensures { (before : List FuncShape) → IsBefore seen.old before → ((v : ℕ) → types_in scope.old v ≡ None)
+    ensures { (before : List FuncShape) → IsBefore seen.old before → ((v : ℕ) → types_in scope.old v ≡ None) → IsSet scope.old.constants []
         → EntersFunc result seen.new scope.new before func.now }
 {
     match add_definitions(&mut seen.values, func.params.as_slice()) {

@@ -1,9 +1,4 @@
-use Rattle.std.proofs.Common.{List, ap, sym, ◌∙◌, refl}
-use Rattle.mlir_ir.specs.Count.{first}
-use Rattle.mlir_ir.specs.declared.tree.Ty.{Ty}
-use Rattle.mlir_ir.specs.declared.tree.ValueId.{ValueId}
-use Rattle.mlir_verify.specs.Place.{type_among}
-use Rattle.mlir_verify.specs.Scope.{types_in}
+use Rattle.std.proofs.Common.{sym, ◌∙◌, refl}
 use Rattle.mlir_verify.proofs.Checking.{op_breaks_names, op_broken, op_stands}
 use Rattle.mlir_verify.proofs.walk.check_op.Goals as goal
 
@@ -22,6 +17,6 @@ pub returns-in-Ok : goal.returns-in-Ok
 returns-in-Ok c = λ before earlier later s e g. (
   op_broken c.args.seen.now c.name_op.new.seen c.args.scope.now before c.args.func.now earlier c.args.op.now later c.in-Ok-true.field-0 c.args.first c.args.last s c.in-Ok-true.field-0-test (λ v p x y. c.in-Ok-true.ensures v p x y) e g
       ∙ sym c.in-Ok-None.ensures ∙ c.in-Ok-None.field-0-is,
-  op_stands c.args.seen.now c.name_op.new.seen c.args.scope.now c.bind.new.self before c.args.func.now earlier c.args.op.now c.in-Ok-true.field-0 s c.in-Ok-true.field-0-test (λ v p x y. c.in-Ok-true.ensures v p x y)
-      (λ v. c.in-Ok.ensures v ∙ ap (λ (x : List (ValueId × Ty)). first (type_among x v) (types_in c.args.scope.now v)) c.as_slice.ensures),
+  op_stands c.args.seen.now c.name_op.new.seen c.args.scope.now c.define.new.scope before c.args.func.now earlier c.args.op.now c.in-Ok-true.field-0 s c.in-Ok-true.field-0-test (λ v p x y. c.in-Ok-true.ensures v p x y)
+      c.in-Ok.ensures.types c.in-Ok.ensures.constants,
 )

@@ -12,7 +12,7 @@ use Rattle.mlir_verify.proofs.Checking.{params_fail, func_stands}
 use Rattle.mlir_verify.proofs.walk.enter_func.Goals as goal
 
 pub returns-in-Ok-false : goal.returns-in-Ok-false
-returns-in-Ok-false c = λ before s n.
+returns-in-Ok-false c = λ before s n k.
     let f = c.args.func.now in
     let b : c.as_slice-in-Ok-false.result.now ≡ f.body = c.as_slice-in-Ok-false.ensures ∙ ap (λ (x : FuncShape). x.body) c.func.view_is in
     let ps : c.as_slice.result.now ≡ f.params = c.as_slice.ensures ∙ ap (λ (x : FuncShape). x.params) c.func.view_is in
@@ -24,11 +24,11 @@ returns-in-Ok-false c = λ before s n.
     params_fail f.body o before f l e r ∙ ap (λ (x : Op). Some (V1, x.id)) (c.index-as_slice-0.is)
 
 pub returns-in-Ok : goal.returns-in-Ok
-returns-in-Ok c = λ before s n.
+returns-in-Ok c = λ before s n k.
     let f = c.args.func.now in
     let ps : c.as_slice.result.now ≡ f.params = c.as_slice.ensures ∙ ap (λ (x : FuncShape). x.params) c.func.view_is in
     let ps2 : c.as_slice-2.result.now ≡ f.params = c.as_slice-2.ensures ∙ ap (λ (x : FuncShape). x.params) c.func.view_is in
     let a0 = subst (λ (b : Bool). Adds (Ok b) c.add_definitions.new.set (numbers c.as_slice.result.now) (defined_in before)) c.in-Ok-true.field-0-test (c.in-Ok-true.ensures (defined_in before) s.values) in
     let a = subst (λ (x : List (ValueId × Ty)). Adds (Ok true) c.add_definitions.new.set (numbers x) (defined_in before)) ps a0 in
     func_stands (record { values = c.add_definitions.new.set; ops = c.args.seen.now.ops }) c.args.scope.now c.bind.new.self before f c.args.seen.now.ops s.ops refl a.1 a.0 n
-    (λ v. c.in-Ok.ensures v ∙ ap (λ (x : List (ValueId × Ty)). first (type_among x v) (types_in c.args.scope.now v)) ps2)
+    (λ v. c.in-Ok.ensures.types v ∙ ap (λ (x : List (ValueId × Ty)). first (type_among x v) (types_in c.args.scope.now v)) ps2) k c.bind.ensures.constants

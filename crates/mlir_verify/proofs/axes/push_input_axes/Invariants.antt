@@ -2,7 +2,7 @@ use Rattle.std.proofs.Common.{◌≡◌, ◌++◌, drop}
 use Rattle.std.specs.List.{flat_map, zip}
 use Rattle.mlir_verify.specs.Maps.{operand_axes}
 use Rattle.mlir_verify.specs.Scope.{types_in}
-use Rattle.mlir_verify.proofs.extents.push_input_axes.Given as goal
+use Rattle.mlir_verify.proofs.axes.push_input_axes.Given as goal
 
 abbrev pub invariant-loop-m : goal.invariant-loop-m
 invariant-loop-m l =

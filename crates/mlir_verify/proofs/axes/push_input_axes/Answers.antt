@@ -5,7 +5,7 @@ use Rattle.mlir_ir.specs.declared.tree.ValueId.{ValueId}
 use Rattle.mlir_verify.specs.Maps.{Axis, operand_axes}
 use Rattle.mlir_verify.specs.Scope.{types_in}
 use Rattle.mlir_verify.proofs.Walks.{pairs_go}
-use Rattle.mlir_verify.proofs.extents.push_input_axes.Goals as goal
+use Rattle.mlir_verify.proofs.axes.push_input_axes.Goals as goal
 
 pub loop-m-preserved : goal.loop-m-preserved
 loop-m-preserved c =
