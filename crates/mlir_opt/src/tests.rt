@@ -106,16 +106,68 @@ func.func @add(%a: tensor<3xi32>, %b: tensor<4xi32>) -> tensor<3xi32> {
 }
 ";
 
-// A quotient, which isn't built.
-const QUOTIENT: &str = "#id = affine_map<(d0) -> (d0)>
-func.func @add(%a: tensor<3xi32>, %b: tensor<3xi32>) -> tensor<3xi32> {
-  %e = tensor.empty() : tensor<3xi32>
-  %r = linalg.generic {indexing_maps = [#id, #id, #id], iterator_types = [\"parallel\"]} ins(%a, %b : tensor<3xi32>, tensor<3xi32>) outs(%e : tensor<3xi32>) {
-  ^bb0(%x: i32, %y: i32, %z: i32):
-    %s = arith.divsi %x, %y : i32
-    linalg.yield %s : i32
-  } -> tensor<3xi32>
-  return %r : tensor<3xi32>
+// Functions with no, one and several results, in a module with aliases on both sides.
+const SEVERAL: &str = "#id = affine_map<(d0) -> (d0)>
+module {
+  func.func @none() { func.return }
+  func.func @two(%a: tensor<i8>, %b: tensor<2x1x4xi64>) -> (tensor<2x1x4xi64>, tensor<i8>) {
+    return %b, %a : tensor<2x1x4xi64>, tensor<i8>
+  }
+  func.func @one(%a: tensor<0xi1>) -> tensor<0xi1> {
+    %e = tensor.empty() : tensor<i8>
+    return %a : tensor<0xi1>
+  }
+}
+#last = affine_map<(d0) -> (d0)>
+";
+
+const SEVERAL_PRINTED: &str = "module {
+  func.func @none() {
+    return
+  }
+  func.func @two(%arg0: tensor<i8>, %arg1: tensor<2x1x4xi64>) -> (tensor<2x1x4xi64>, tensor<i8>) {
+    return %arg1, %arg0 : tensor<2x1x4xi64>, tensor<i8>
+  }
+  func.func @one(%arg0: tensor<0xi1>) -> tensor<0xi1> {
+    %0 = tensor.empty() : tensor<i8>
+    return %arg0 : tensor<0xi1>
+  }
+}
+";
+
+// Constants, of which a payload uses one, and a fill.
+const CONSTANTS: &str = "#id = affine_map<(d0) -> (d0)>
+func.func @f(%a: tensor<3xi8>) -> tensor<3xi8> {
+  %c = arith.constant 255 : i8
+  %d = arith.constant dense<[7, 7, 7]> : tensor<3xi8>
+  %s = arith.constant dense<[[true], [false]]> : tensor<2x1xi1>
+  %f = linalg.fill ins(%c : i8) outs(%a : tensor<3xi8>) -> tensor<3xi8>
+  %r = linalg.generic {indexing_maps = [#id], iterator_types = [\"parallel\"]} outs(%f : tensor<3xi8>) {
+  ^bb0(%x: i8):
+    %y = arith.muli %x, %x : i8
+    %z = arith.addi %c, %y : i8
+    linalg.yield %z : i8
+  } -> tensor<3xi8>
+  return %r : tensor<3xi8>
+}
+";
+
+const CONSTANTS_PRINTED: &str = "#map = affine_map<(d0) -> (d0)>
+module {
+  func.func @f(%arg0: tensor<3xi8>) -> tensor<3xi8> {
+    %0 = arith.constant -1 : i8
+    %1 = arith.constant dense<7> : tensor<3xi8>
+    %2 = arith.constant dense<[[true], [false]]> : tensor<2x1xi1>
+    %3 = linalg.fill ins(%0 : i8) outs(%arg0 : tensor<3xi8>) -> tensor<3xi8>
+    %4 = linalg.generic {indexing_maps = [#map], iterator_types = [\"parallel\"]} outs(%3 : tensor<3xi8>) {
+    ^bb0(%arg1: i8):
+      %5 = arith.muli %arg1, %arg1 : i8
+      %6 = arith.constant -1 : i8
+      %7 = arith.addi %6, %5 : i8
+      linalg.yield %7 : i8
+    } -> tensor<3xi8>
+    return %4 : tensor<3xi8>
+  }
 }
 ";
 
@@ -125,9 +177,53 @@ fn texts_are_answered(rt: HostRuntime) -> Result<(), Fail> {
     // A text, and what `out` and `err` hold.
     for (text, held, line) in [
         (WRITTEN, TEXT, ""),
+        (SEVERAL, SEVERAL_PRINTED, ""),
+        (SEVERAL_PRINTED, SEVERAL_PRINTED, ""),
+        (CONSTANTS, CONSTANTS_PRINTED, ""),
+        (CONSTANTS_PRINTED, CONSTANTS_PRINTED, ""),
+        (
+            "func.func @f() {\n  %c = arith.constant 256 : i8",
+            "",
+            "error: 2:23: number\n",
+        ),
+        (
+            "func.func @f() {\n  %c = arith.constant dense<[1, 2]> : tensor<3xi8>",
+            "",
+            "error: 2:39: unsupported\n",
+        ),
+        ("", "module {\n}\n", ""),
+        ("#id = affine_map<(d0) -> (d0)>", "module {\n}\n", ""),
         (UNEQUAL, "", "error: verify V7 at 1\n"),
-        (QUOTIENT, "", "error: 6:10: unsupported\n"),
-        ("", "", "error: 1:1: syntax\n"),
+        (
+            "func.func @f() { return }\nfunc.func @g() { return }\nfunc.func @f()",
+            "",
+            "error: 3:11: twice\n",
+        ),
+        (
+            "func.func @f(%a: tensor<i8>) -> (tensor<i8>)",
+            "",
+            "error: 1:44: syntax\n",
+        ),
+        (
+            "module { }\nfunc.func @f() { return }",
+            "",
+            "error: 2:1: syntax\n",
+        ),
+        (
+            "func.func @f() { return }\nmodule { }",
+            "",
+            "error: 2:1: syntax\n",
+        ),
+        (
+            "func.func @f(%a: tensor<1x1x1x1x1x1x1x1x1xi8>)",
+            "",
+            "error: limit rank\n",
+        ),
+        (
+            "func.func @f(%a: tensor<1048576x5xi8>)",
+            "",
+            "error: limit elements\n",
+        ),
         ("?", "", "error: 1:1: byte\n"),
         ("tensor<3xi32 {", "", "error: 1:1: unclosed\n"),
         ("#id = affine_map<(d0) ->", "", "error: 1:25: syntax\n"),
@@ -177,9 +273,9 @@ fn texts_are_answered(rt: HostRuntime) -> Result<(), Fail> {
         let mut err = CleanSink::new(alloc);
         let all = words(alloc, 1)?;
         let ended = mlir_opt(alloc, &all, &mut shelf, &mut out, &mut err);
-        assert_eq!(rt; ended != 0, held.is_empty(), "{text:?}");
-        assert_eq!(rt; out.bytes(), held.as_bytes(), "{text:?}");
         assert_eq!(rt; err.bytes(), line.as_bytes(), "{text:?}");
+        assert_eq!(rt; out.bytes(), held.as_bytes(), "{text:?}");
+        assert_eq!(rt; ended != 0, held.is_empty(), "{text:?}");
     }
     Ok(())
 }

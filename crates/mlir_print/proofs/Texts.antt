@@ -1,14 +1,15 @@
 -- The aliases' texts.
-use Rattle.std.proofs.Common.{◌≡◌, ℕ, ◌+◌, suc, Bool, true, false, cond, not, nat_lt, List, [], ◌∷◌, ◌++◌, map, length, Option, Some, None, refl, sym, ap, ◌∙◌, ◌||◌, ◌<◌, drop, get_or, arith}
+use Rattle.std.proofs.Common.{◌≡◌, ℕ, ◌+◌, suc, Bool, true, false, cond, not, nat_lt, List, [], ◌∷◌, ◌++◌, map, length, Some, None, refl, sym, ap, ◌∙◌, ◌||◌, ◌<◌, drop, get_or, arith}
 use Rattle.std.proofs.Math.Seq.{drop-cons}
 use Rattle.std.specs.Prelude.{position, unwrap_or}
 use Rattle.std.specs.List.{list_any, position_or_len, prefix_len}
 use Rattle.std.specs.Str.{bytes_eq}
 use Rattle.affine_maps.specs.Shape.{MapShape}
+use Rattle.affine_text.specs.Text.{text_of_map}
 use Rattle.mlir_ir.specs.declared.tree.Op.{Op}
 use Rattle.mlir_ir.specs.Shape.{FuncShape}
-use Rattle.mlir_print.specs.Maps.{map_text, with_map, with_maps, with_ops, with_funcs, maps_used, alias_text, alias_number, alias_of}
-use Rattle.mlir_print.specs.Parts.{with_text, with_texts, after_ops_texts, after_funcs_texts, text_number, use_text, alias_line_text, alias_lines_text}
+use Rattle.mlir_print.specs.Maps.{with_map, with_maps, with_ops, with_funcs, maps_used, alias_text, alias_of}
+use Rattle.mlir_print.specs.MapParts.{with_text, with_texts, after_ops_texts, after_funcs_texts, text_number, use_text, alias_line_text, alias_lines_text}
 
 pub any_map : {A B : Type 0} (p : B → Bool) (f : A → B) (xs : List A) → list_any p (map f xs) ≡ list_any (λ x. p (f x)) xs
 any_map p f [] = refl
@@ -50,18 +51,18 @@ added_text f eq xs x e =
 pub number_of_text : {A : Type 0} (f : A → List ℕ) (t : List ℕ) (xs : List A) → text_number (map f xs) t ≡ unwrap_or (position (λ x. bytes_eq t (f x)) xs) 0
 number_of_text f t xs = ap (λ o. unwrap_or o 0) (position_map (bytes_eq t) f xs)
 
-pub alias_is : (ms : List MapShape) (m : MapShape) → alias_of ms m ≡ use_text (map map_text ms) m
-alias_is ms m = ap alias_text (sym (number_of_text map_text (map_text m) ms))
+pub alias_is : (ms : List MapShape) (m : MapShape) → alias_of ms m ≡ use_text (map text_of_map ms) m
+alias_is ms m = ap alias_text (sym (number_of_text text_of_map (text_of_map m) ms))
 
-maps_texts : (ms us : List MapShape) → with_texts (map map_text ms) us ≡ map map_text (with_maps ms us)
+maps_texts : (ms us : List MapShape) → with_texts (map text_of_map ms) us ≡ map text_of_map (with_maps ms us)
 maps_texts ms [] = refl
-maps_texts ms (u ∷ us) = ap (λ ts. with_texts ts us) (sym (added_text map_text (λ x y. bytes_eq (map_text x) (map_text y)) ms u (λ y. refl))) ∙ maps_texts (with_map ms u) us
+maps_texts ms (u ∷ us) = ap (λ ts. with_texts ts us) (sym (added_text text_of_map (λ x y. bytes_eq (text_of_map x) (text_of_map y)) ms u (λ y. refl))) ∙ maps_texts (with_map ms u) us
 
-ops_texts : (ms : List MapShape) (os : List Op) → after_ops_texts (map map_text ms) os ≡ map map_text (with_ops ms os)
+ops_texts : (ms : List MapShape) (os : List Op) → after_ops_texts (map text_of_map ms) os ≡ map text_of_map (with_ops ms os)
 ops_texts ms [] = refl
 ops_texts ms (o ∷ os) = ap (λ ts. after_ops_texts ts os) (maps_texts ms (maps_used o.kind)) ∙ ops_texts (with_maps ms (maps_used o.kind)) os
 
-pub funcs_texts : (ms : List MapShape) (fs : List FuncShape) → after_funcs_texts (map map_text ms) fs ≡ map map_text (with_funcs ms fs)
+pub funcs_texts : (ms : List MapShape) (fs : List FuncShape) → after_funcs_texts (map text_of_map ms) fs ≡ map text_of_map (with_funcs ms fs)
 funcs_texts ms [] = refl
 funcs_texts ms (f ∷ fs) = ap (λ ts. after_funcs_texts ts fs) (ops_texts ms f.body) ∙ funcs_texts (with_ops ms f.body) fs
 

@@ -1,60 +1,51 @@
 -- Maps and their aliases: `#map`, `#map1`, `#map2`, in the order of first use.
-use Rattle.std.specs.Prelude.{ℕ, zero, suc, ◌+◌, Bool, true, false, ◌&&◌, nat_eq, ℤ, pos, List, [], ◌∷◌, ◌++◌, Option, Some, None, if◌then◌else◌, codes, decimal, map, position, unwrap_or}
-use Rattle.std.specs.Ordering.{int_eq}
+use Rattle.std.specs.Prelude.{ℕ, zero, suc, ◌+◌, List, [], ◌∷◌, ◌++◌, map, drop, if◌then◌else◌, codes, decimal, position, unwrap_or}
 use Rattle.std.specs.List.{list_any}
 use Rattle.std.specs.Str.{bytes_eq}
 use Rattle.affine_maps.specs.Shape.{MapShape}
-use Rattle.affine_maps.specs.declared.map.Expr.{Expr}
+use Rattle.affine_text.specs.Text.{text_of_map}
+use Rattle.affine_text.specs.Canonical.{map_front}
 use Rattle.mlir_ir.specs.declared.tree.OpKind.{OpKind}
 use Rattle.mlir_ir.specs.declared.tree.OpKind.TheVariants as kinds
 use Rattle.mlir_ir.specs.declared.tree.Op.{Op}
 use Rattle.mlir_ir.specs.Shape.{FuncShape}
-use Rattle.text_format.specs.declared.class.Class.TheVariants.{Alias}
+use Rattle.text_format.specs.declared.class.Class.TheVariants.{Exactly, Alias, MapToken}
 use Rattle.text_format.specs.declared.front.Kind.TheVariants as tokens
-use Rattle.text_format.specs.declared.lexeme.Lexeme.TheVariants.{OpenParenthesis, CloseParenthesis, Less, Greater, Equals, Arrow, AffineMap, D0}
-use Rattle.text_format.specs.Pieces.{Piece, Gap, Fixed, bytes_of}
-use Rattle.mlir_syntax.specs.declared.tree.AliasLine.{AliasLine}
-use Rattle.mlir_syntax.specs.declared.tree.AliasUse.{AliasUse}
-use Rattle.mlir_print.specs.Writers.{Writer, put, lay_after, made, unbuilt_text, ◌▷◌}
+use Rattle.text_format.specs.declared.lexeme.Lexeme.TheVariants.{Less, Greater, Equals, AffineMap}
+use Rattle.text_format.specs.Lexemes.{lexeme_kind, lexeme_text}
+use Rattle.text_format.specs.Pieces.{Piece, Gap, Fixed, Leaf, shapes_at}
+use Rattle.mlir_syntax.specs.declared.tree.files.AliasLine.{AliasLine}
+use Rattle.mlir_syntax.specs.declared.tree.maps.MapPiece.{MapPiece}
+use Rattle.mlir_syntax.specs.declared.tree.maps.WrittenMap.{WrittenMap}
+use Rattle.mlir_syntax.specs.declared.tree.maps.MapUse.{MapUse}
+use Rattle.mlir_syntax.specs.declared.tree.maps.MapUse.TheVariants as uses
+use Rattle.mlir_print.specs.Writers.{Writer, put, keep, lay, space, lay_after, pair, made, ◌▷◌}
 
--- ---- the text of a map (MLIR Affine dialect, "Affine Maps")
+-- ---- a map as it is written (MLIR Affine dialect, "Affine Maps")
 
-abbrev pub are_first_terms : List (ℕ × ℤ) → Bool
-are_first_terms [] = false
-are_first_terms (t ∷ []) = nat_eq t.0 0 && int_eq t.1 (pos 1)
-are_first_terms (t ∷ (u ∷ ts)) = false
+-- each token is one of a written map
+abbrev pub map_token : Piece → Piece
+map_token (Gap g) = Gap g
+map_token (Fixed l) = Leaf MapToken (lexeme_kind l) (lexeme_text l)
+map_token (Leaf c k t) = Leaf MapToken k t
 
--- the expression d0
-abbrev pub is_first_dimension : Expr → Bool
-is_first_dimension e = int_eq e.constant (pos 0) && are_first_terms e.terms
+-- what stands between the angle brackets: `(d0, d1) -> (d0 + d1 * 2)`
+unfoldable pub inner_pieces : MapShape → List Piece
+inner_pieces m = map map_token (drop 2 (map_front MapToken m))
 
-abbrev pub are_first_dimension : List Expr → Bool
-are_first_dimension [] = false
-are_first_dimension (e ∷ []) = is_first_dimension e
-are_first_dimension (e ∷ (f ∷ es)) = false
+abbrev pub tokens_at : List Piece → Writer (List MapPiece)
+tokens_at ps = record { pieces = ps; tree = λ at. map (λ t. record { token = t }) (shapes_at at ps) }
 
--- (d0) -> (d0)
-abbrev pub is_line : MapShape → Bool
-is_line m = nat_eq m.dims 1 && are_first_dimension m.results
-
-abbrev pub line_pieces : List Piece
-line_pieces = Fixed OpenParenthesis ∷ Fixed D0 ∷ Fixed CloseParenthesis ∷ Gap (codes " ") ∷ Fixed Arrow ∷ Gap (codes " ") ∷ Fixed OpenParenthesis ∷ Fixed D0 ∷ Fixed CloseParenthesis ∷ []
-
-abbrev pub map_pieces_if : Bool → List Piece
-map_pieces_if true = line_pieces
-map_pieces_if false = Gap unbuilt_text ∷ []
-
-abbrev pub map_pieces : MapShape → List Piece
-map_pieces m = map_pieces_if (is_line m)
-
-abbrev pub map_text : MapShape → List ℕ
-map_text m = bytes_of (map_pieces m)
+-- `affine_map<(d0) -> (d0)>`
+abbrev pub written_at : MapShape → Writer WrittenMap
+written_at m = made (λ x. record { keyword = x.0; less = x.1.0; tokens = x.1.1.0; greater = x.1.1.1 }) ▷
+    pair (keep Exactly AffineMap) ▷ pair (keep Exactly Less) ▷ pair (tokens_at (inner_pieces m)) ▷ keep Exactly Greater
 
 -- ---- aliases
 
 -- the maps that have an alias; maps of one text share theirs
 abbrev pub with_map : List MapShape → MapShape → List MapShape
-with_map ms m = if list_any (λ x. bytes_eq (map_text m) (map_text x)) ms then ms else ms ++ m ∷ []
+with_map ms m = if list_any (λ x. bytes_eq (text_of_map m) (text_of_map x)) ms then ms else ms ++ m ∷ []
 
 abbrev pub with_maps : List MapShape → List MapShape → List MapShape
 with_maps ms [] = ms
@@ -78,20 +69,19 @@ alias_text zero = codes "#map"
 alias_text (suc n) = codes "#map" ++ decimal (suc n)
 
 abbrev pub alias_number : List MapShape → MapShape → ℕ
-alias_number ms m = unwrap_or (position (λ x. bytes_eq (map_text m) (map_text x)) ms) 0
+alias_number ms m = unwrap_or (position (λ x. bytes_eq (text_of_map m) (text_of_map x)) ms) 0
 
 abbrev pub alias_of : List MapShape → MapShape → List ℕ
 alias_of ms m = alias_text (alias_number ms m)
 
 -- ---- as they are written
 
-abbrev pub use_at : List MapShape → MapShape → Writer AliasUse
-use_at ms m = made (λ t. record { name = t }) (put Alias tokens.Alias (alias_of ms m))
+abbrev pub use_at : List MapShape → MapShape → Writer MapUse
+use_at ms m = made uses.Alias (put Alias tokens.Alias (alias_of ms m))
 
 -- `#map = affine_map<(d0) -> (d0)>`
 abbrev pub alias_line_at : ℕ → MapShape → Writer AliasLine
-alias_line_at n m = made (λ t. record { name = t }) ▷ lay_after (put Alias tokens.Alias (alias_text n))
-    (Gap (codes " ") ∷ Fixed Equals ∷ Gap (codes " ") ∷ Fixed AffineMap ∷ Fixed Less ∷ (map_pieces m ++ Fixed Greater ∷ Gap (codes "\n") ∷ []))
+alias_line_at n m = made (λ x. record { name = x.0; map = x.1 }) ▷ pair (put Alias tokens.Alias (alias_text n)) ▷ space ▷ lay Equals ▷ space ▷ lay_after (written_at m) (Gap (codes "\n") ∷ [])
 
 abbrev pub alias_lines_at : ℕ → List MapShape → List (Writer AliasLine)
 alias_lines_at n [] = []

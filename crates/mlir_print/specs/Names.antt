@@ -1,5 +1,5 @@
 -- The names of the canonical text: arguments are `%arg0`, `%arg1`, and results `%0`, `%1`, in order in a function.
-use Rattle.std.specs.Prelude.{◌≡◌, ◌≤◌, ℕ, ◌+◌, ◌*◌, ◌^◌, suc, List, [], ◌∷◌, ◌++◌, length, Option, Some, None, if◌then◌else◌, nat_eq, codes, decimal, refl}
+use Rattle.std.specs.Prelude.{◌≤◌, ℕ, ◌+◌, ◌*◌, ◌^◌, suc, List, [], ◌∷◌, ◌++◌, length, Option, Some, None, if◌then◌else◌, nat_eq, codes, decimal, refl}
 use Rattle.std.specs.Coded.{Coded, code_by, coded×, coded_ℕ, coded_list}
 use Rattle.payload_ops.specs.declared.step.Arg.{Arg}
 use Rattle.payload_ops.specs.declared.step.Arg.TheVariants.{Input, Out, Step}
@@ -9,7 +9,9 @@ use Rattle.mlir_ir.specs.contracts.tree.Ty as ty
 use Rattle.mlir_print.specs.declared.names.Given.{Given}
 use Rattle.mlir_print.specs.declared.names.Given.TheVariants.{Argument, Result}
 use Rattle.mlir_print.specs.contracts.names.Given as given
-use Rattle.mlir_print.specs.Types.{ty_text}
+use Rattle.text_format.specs.declared.front.Kind.{Kind}
+use Rattle.text_format.specs.declared.front.Kind.TheVariants.{Shaped}
+use Rattle.mlir_print.specs.Types.{ty_text, type_kind}
 use Rattle.mlir_print.specs.Writers.{unbuilt_text}
 
 abbrev pub given_text : Given → List ℕ
@@ -55,6 +57,14 @@ name_or (Some r) = given_text r.name
 abbrev pub type_or : Option Row → List ℕ
 type_or None = unbuilt_text
 type_or (Some r) = ty_text r.ty
+
+abbrev pub kind_or : Option Row → Kind
+kind_or None = Shaped
+kind_or (Some r) = type_kind r.ty
+
+-- what the type of a value is as a token
+abbrev pub kind_in : List Row → ValueId → Kind
+kind_in rows v = kind_or (look rows v.0)
 
 -- the name and the type of a value
 abbrev pub name_in : List Row → ValueId → List ℕ

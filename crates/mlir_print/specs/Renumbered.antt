@@ -19,6 +19,11 @@ number_in base rows v = record { 0 = unwrap_or (spot base rows v.0) base }
 abbrev pub kind_renumbered : (ValueId → ValueId) → OpKind → OpKind
 kind_renumbered f (kinds.Empty sizes) = kinds.Empty (map f sizes)
 kind_renumbered f (kinds.Generic maps its ins out captured p) = kinds.Generic maps its (map f ins) (f out) (map f captured) p
+kind_renumbered f (kinds.Fill v out) = kinds.Fill (f v) (f out)
+kind_renumbered f (kinds.Matmul a b out) = kinds.Matmul (f a) (f b) (f out)
+kind_renumbered f (kinds.BatchMatmul a b out) = kinds.BatchMatmul (f a) (f b) (f out)
+kind_renumbered f (kinds.Transpose a out order) = kinds.Transpose (f a) (f out) order
+kind_renumbered f (kinds.Broadcast a out dims) = kinds.Broadcast (f a) (f out) dims
 kind_renumbered f (kinds.Return vs) = kinds.Return (map f vs)
 kind_renumbered f k = k
 

@@ -2,6 +2,8 @@
 use Rattle.std.specs.Prelude.{ℕ, List, [], ◌∷◌, ◌++◌, codes, decimal}
 use Rattle.payload_ops.specs.declared.kinds.ElemTy.{ElemTy}
 use Rattle.payload_ops.specs.declared.kinds.ElemTy.TheVariants.{Int, Index}
+use Rattle.text_format.specs.declared.front.Kind.{Kind}
+use Rattle.text_format.specs.declared.front.Kind.TheVariants.{Word, Shaped}
 use Rattle.mlir_ir.specs.declared.tree.Ty.{Ty}
 use Rattle.mlir_ir.specs.declared.tree.Ty.TheVariants.{Scalar, Tensor, Vector}
 use Rattle.mlir_ir.specs.declared.tree.Extent.{Extent}
@@ -19,6 +21,12 @@ extents_text (extents.Any ∷ es) = codes "?x" ++ extents_text es
 abbrev pub lanes_text : List ℕ → List ℕ
 lanes_text [] = []
 lanes_text (n ∷ ns) = decimal n ++ (codes "x" ++ lanes_text ns)
+
+-- what a type is as a token: a word, or a shaped type
+abbrev pub type_kind : Ty → Kind
+type_kind (Scalar e) = Word
+type_kind (Tensor es w) = Shaped
+type_kind (Vector ns w) = Shaped
 
 abbrev pub ty_text : Ty → List ℕ
 ty_text (Scalar e) = elem_text e

@@ -1,7 +1,7 @@
 -- A text as it is written, with the tree that it stands for.
 use Rattle.std.specs.Prelude.{ℕ, ◌+◌, List, [], ◌∷◌, ◌++◌, map, length, codes}
 use Rattle.text_format.specs.declared.front.Kind.{Kind}
-use Rattle.text_format.specs.declared.front.Kind.TheVariants.{Word, Value}
+use Rattle.text_format.specs.declared.front.Kind.TheVariants.{Word}
 use Rattle.text_format.specs.declared.class.Class.{Class}
 use Rattle.text_format.specs.declared.lexeme.Lexeme.{Lexeme}
 use Rattle.text_format.specs.declared.lexeme.Lexeme.TheVariants.{Comma}

@@ -1,62 +1,34 @@
 //! Maps and their aliases.
 
-ghost use Rattle.std.specs.Prelude.{◌≡◌, ◌++◌, [], map, string_bytes, OnOk};
-ghost use Rattle.mlir_print.specs.Maps.{is_line, is_first_dimension, are_first_terms, map_text, alias_text};
-ghost use Rattle.mlir_print.specs.Parts.{with_text, with_texts, text_number, use_text, uses_text, alias_line_text, alias_lines_text, maps_text};
+ghost use Rattle.std.specs.Prelude.{◌≡◌, ◌++◌, [], map, IfOk, OnOk};
+ghost use Rattle.affine_text.specs.Text.{text_of_map};
+ghost use Rattle.mlir_print.specs.Maps.{alias_text};
+ghost use Rattle.mlir_print.specs.MapParts.{with_text, with_texts, text_number, use_text, uses_text, alias_line_text, alias_lines_text};
 
-use affine_maps::{AffineMap, Expr};
+use affine_maps::AffineMap;
+use affine_text::map_text;
 use indexmap::IndexSet;
 use itoa::Buffer;
 use payload_ops::Memory;
 use std::alloc::Global;
 use std::marker::Model;
 
-fn are_first_terms(terms: &[(u32, i64)]) -> bool
-    ensures { result ≡ are_first_terms terms.now }
-{
-    match terms {
-        [term] => term.0 == 0 && term.1 == 1,
-        _ => false,
-    }
-}
-
-fn is_first_dimension(expr: &Expr) -> bool
-    ensures { result ≡ is_first_dimension expr.now }
-{
-    expr.constant == 0 && are_first_terms(expr.terms.as_slice())
-}
-
-fn is_line(map: &AffineMap) -> bool
-    ensures { result ≡ is_line map.now }
-{
-    match map.results().as_slice() {
-        [expr] => map.dims() == 1 && is_first_dimension(expr),
-        _ => false,
-    }
-}
-
-/// What stands between `affine_map<` and `>`.
-pub fn map_text(map: &AffineMap) -> &'static str
-    ensures { result.now ≡ map_text map.now }
-{
-    if is_line(map) { "(d0) -> (d0)" } else { "?" }
-}
-
 /// The texts of the maps that are used, in the order of first use.
 #[derive(Drop)]
 pub struct Aliases {
-    texts: IndexSet<String>,
+    alloc: Global,
+    texts: IndexSet<Vec<u8>>,
 }
 
 impl Model for Aliases {
-    ghost use Rattle.std.specs.Prelude.{ℕ, List, map, string_bytes};
+    ghost use Rattle.std.specs.Prelude.{ℕ, List, map};
     ghost use Rattle.std.specs.Coded.{coded_list, coded_ℕ};
 
     ghost Value = { List (List ℕ) };
 
     ghost coded = { coded_list (coded_list coded_ℕ) };
 
-    ghost view = { λ s. map (λ t. string_bytes t) s.texts.keys };
+    ghost view = { λ s. map (λ t. t.items) s.texts.keys };
 }
 
 impl Aliases {
@@ -64,24 +36,26 @@ impl Aliases {
         ensures { result ≡ [] }
     {
         Aliases {
+            alloc,
             texts: IndexSet::new(alloc),
         }
     }
 
-    pub fn add(&mut self, alloc: Global, map: &AffineMap) -> Result<(), Memory>
-        ensures { OnOk result (self.new ≡ with_text self.old (map_text map.now)) }
+    pub fn add(&mut self, map: &AffineMap) -> Result<(), Memory>
+        ensures { OnOk result (self.new ≡ with_text self.old (text_of_map map.now)) }
     {
-        let text = String::from_str(alloc, map_text(map))?;
+        let text = map_text(self.alloc, map)?.into_vec();
         self.texts.insert_full(text)?;
         Ok(())
     }
 
-    pub fn number(&self, map: &AffineMap) -> usize
-        ensures { result ≡ text_number self.now (map_text map.now) }
+    pub fn number(&self, map: &AffineMap) -> Result<usize, Memory>
+        ensures { IfOk result (λ n. n ≡ text_number self.now (text_of_map map.now)) }
     {
-        match self.texts.get_index_of(map_text(map)) {
-            Some(number) => number,
-            None => 0,
+        let text = map_text(self.alloc, map)?;
+        match self.texts.get_index_of(text.as_slice()) {
+            Some(number) => Ok(number),
+            None => Ok(0),
         }
     }
 
@@ -92,12 +66,12 @@ impl Aliases {
     }
 }
 
-fn write_alias_lines(out: &mut Vec<u8>, texts: &[String]) -> Result<(), Memory>
-    ensures { OnOk result (out.new.items ≡ out.old.items ++ alias_lines_text 0 (map (λ t. string_bytes t) texts.now)) }
+fn write_alias_lines(out: &mut Vec<u8>, texts: &[Vec<u8>]) -> Result<(), Memory>
+    ensures { OnOk result (out.new.items ≡ out.old.items ++ alias_lines_text 0 (map (λ t. t.items) texts.now)) }
 {
     let mut number = 0u64;
     for text in texts {
-        write_alias_line(out, number, text.as_str())?;
+        write_alias_line(out, number, text.as_slice())?;
         number += 1;
     }
     Ok(())
@@ -114,44 +88,71 @@ fn write_alias(out: &mut Vec<u8>, number: u64) -> Result<(), Memory>
     Ok(())
 }
 
-fn write_alias_line(out: &mut Vec<u8>, number: u64, text: &str) -> Result<(), Memory>
+fn write_alias_line(out: &mut Vec<u8>, number: u64, text: &[u8]) -> Result<(), Memory>
     ensures { OnOk result (out.new.items ≡ out.old.items ++ alias_line_text number text.now) }
 {
     write_alias(out, number)?;
-    out.extend_from_slice(b" = affine_map<")?;
-    out.extend_from_slice(text.as_bytes())?;
-    out.extend_from_slice(b">\n")?;
+    out.extend_from_slice(b" = ")?;
+    out.extend_from_slice(text)?;
+    out.extend_from_slice(b"\n")?;
     Ok(())
 }
 
-fn write_uses(out: &mut Vec<u8>, aliases: &Aliases, maps: &[AffineMap]) -> Result<(), Memory>
+pub fn write_uses(out: &mut Vec<u8>, aliases: &Aliases, maps: &[AffineMap]) -> Result<(), Memory>
     ensures { OnOk result (out.new.items ≡ out.old.items ++ uses_text aliases.now [] maps.now) }
 {
     let mut before: &[u8] = b"";
     for map in maps {
         out.extend_from_slice(before)?;
-        write_alias(out, aliases.number(map) as u64)?;
+        let number = aliases.number(map)?;
+        write_alias(out, number as u64)?;
         before = b", ";
     }
     Ok(())
 }
 
-#[tactic(auto, unfolding(crate::specs::Parts::maps_text))]
-pub fn write_maps(out: &mut Vec<u8>, aliases: &Aliases, maps: &[AffineMap]) -> Result<(), Memory>
-    ensures { OnOk result (out.new.items ≡ out.old.items ++ maps_text aliases.now maps.now) }
-{
-    out.extend_from_slice(b"{indexing_maps = [")?;
-    write_uses(out, aliases, maps)?;
-    out.extend_from_slice(b"], iterator_types = [\"parallel\"]}")?;
-    Ok(())
-}
-
 /// Adds each map that has no alias yet.
-pub fn add_maps(alloc: Global, aliases: &mut Aliases, maps: &[AffineMap]) -> Result<(), Memory>
+pub fn add_maps(aliases: &mut Aliases, maps: &[AffineMap]) -> Result<(), Memory>
     ensures { OnOk result (aliases.new ≡ with_texts aliases.old maps.now) }
 {
     for map in maps {
-        aliases.add(alloc, map)?;
+        aliases.add(map)?;
     }
     Ok(())
+}
+
+#[cfg(test)]
+mod tests {
+    use super::{Aliases, add_maps, write_uses};
+    use affine_maps::{AffineMap, Expr};
+    use payload_ops::{List, Memory};
+    use std::alloc::Global;
+
+    fn constant_map(alloc: Global, constant: i64) -> Result<AffineMap, Memory> {
+        let mut results = List::new(alloc);
+        results.push(Expr {
+            constant,
+            terms: List::new(alloc),
+        })?;
+        AffineMap::new(0, results).ok_or(Memory)
+    }
+
+    #[test]
+    fn aliases_stand_in_the_order_of_first_use(rt: HostRuntime) -> Result<(), Memory> {
+        let alloc = rt.alloc();
+        let mut maps = List::new(alloc);
+        for constant in [1i64, 2, 1] {
+            maps.push(constant_map(alloc, constant)?)?;
+        }
+        let mut aliases = Aliases::new(alloc);
+        add_maps(&mut aliases, maps.as_slice())?;
+        let mut out = Vec::new(alloc);
+        aliases.write_lines(&mut out)?;
+        write_uses(&mut out, &aliases, maps.as_slice())?;
+        assert_eq!(rt;
+            out.as_slice(),
+            b"#map = affine_map<() -> (1)>\n#map1 = affine_map<() -> (2)>\n#map, #map1, #map".as_slice()
+        );
+        Ok(())
+    }
 }

@@ -11,14 +11,19 @@
 #![tactic(auto)]
 
 mod aliases;
+mod constants;
 mod file;
+mod generics;
+mod literals;
 mod names;
 mod operations;
 mod payloads;
+mod structured;
 #[cfg(test)]
 mod tests;
 mod text;
 mod types;
+mod values;
 
 pub use file::file_text;
 pub use text::module_text;

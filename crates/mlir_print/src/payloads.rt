@@ -1,31 +1,63 @@
 //! Payloads.
 
-ghost use Rattle.std.specs.Prelude.{◌≡◌, ◌≤◌, ◌^◌, ◌+◌, ◌++◌, ◌∷◌, [], length, OnOk};
+ghost use Rattle.std.specs.Prelude.{◌≡◌, ◌≤◌, ◌^◌, ◌+◌, ◌++◌, ◌∷◌, [], length, codes, OnOk};
 ghost use Rattle.payload_ops.specs.declared.step.Arg.TheVariants.{Step};
+ghost use Rattle.payload_ops.specs.Payload.{arg_type};
 ghost use Rattle.mlir_print.specs.Names.{given_text, local_name};
-ghost use Rattle.mlir_print.specs.Parts.{block_arg_text, block_args_text, addition_text, step_text, steps_text, yield_text, block_text, region_text};
+ghost use Rattle.mlir_print.specs.Payloads.{type_in};
+ghost use Rattle.mlir_print.specs.Types.{elem_text};
+ghost use Rattle.mlir_print.specs.Literals.{literal_text};
+ghost use Rattle.mlir_print.specs.PayloadParts.{block_arg_text, block_args_text, local_text, operands_text, typed_text, binary_step_text, compare_step_text, select_step_text, conversion_text, cast_step_text, index_step_text, operation_text, step_text, steps_text, yield_text, block_text, region_text};
 
+use crate::literals::write_literal;
 use crate::names::Given;
-use crate::types::{write_elem, write_name, write_unbuilt};
-use payload_ops::{Arg, BinOp, ElemTy, Memory, Payload, PayloadStep, StepOp};
+use crate::types::{write_elem, write_name, write_number, write_unbuilt};
+use mlir_read::{Cast, binary_text, cast_text, predicate_text};
+use payload_ops::{Arg, BinOp, ElemTy, Memory, Payload, PayloadStep, Predicate, StepOp};
 
-/// Where the numbers of a payload's arguments and results begin, and its number of inputs.
-#[derive(Clone, Copy)]
-pub struct Locals {
+/// A payload, and where the numbers of its arguments and of its results begin.
+#[derive(Drop)]
+pub struct Inside<'a> {
     args: u128,
-    inputs: u64,
     results: u128,
+    payload: &'a Payload,
     ghost args_fit: { args ≤ 2 ^ 127 },
     ghost results_fit: { results ≤ 2 ^ 127 },
 }
 
-fn write_local(out: &mut Vec<u8>, locals: Locals, arg: Arg) -> Result<(), Memory>
-    ensures { OnOk result (out.new.items ≡ out.old.items ++ given_text (local_name locals.args locals.inputs locals.results arg)) }
+fn write_local(out: &mut Vec<u8>, inside: &Inside<'_>, arg: Arg) -> Result<(), Memory>
+    ensures { OnOk result (out.new.items ≡ out.old.items ++ local_text inside.now.args inside.now.results inside.now.payload.now arg) }
 {
     match arg {
-        Arg::Input(number) => write_name(out, Given::Argument(locals.args + number as u128)),
-        Arg::Out => write_name(out, Given::Argument(locals.args + locals.inputs as u128)),
-        Arg::Step(number) => write_name(out, Given::Result(locals.results + number as u128)),
+        Arg::Input(number) => write_name(out, Given::Argument(inside.args + number as u128)),
+        Arg::Out => {
+            let inputs = inside.payload.ins().len();
+            write_name(out, Given::Argument(inside.args + inputs as u128))
+        }
+        Arg::Step(number) => write_name(out, Given::Result(inside.results + number as u128)),
+    }
+}
+
+/// The type of what an argument names.
+fn arg_type(payload: &Payload, arg: Arg) -> Option<ElemTy>
+    ensures { result ≡ arg_type payload.now.ins payload.now.out payload.now.steps arg }
+{
+    match arg {
+        Arg::Input(number) => payload.ins().as_slice().get(number as usize).copied(),
+        Arg::Out => Some(payload.out()),
+        Arg::Step(number) => match payload.steps().as_slice().get(number as usize) {
+            Some(step) => Some(step.ty),
+            None => None,
+        },
+    }
+}
+
+fn write_arg_type(out: &mut Vec<u8>, payload: &Payload, arg: Arg) -> Result<(), Memory>
+    ensures { OnOk result (out.new.items ≡ out.old.items ++ type_in payload.now arg) }
+{
+    match arg_type(payload, arg) {
+        Some(elem) => write_elem(out, elem),
+        None => write_unbuilt(out),
     }
 }
 
@@ -58,88 +90,210 @@ fn write_block_args(
     write_block_arg(out, number, output)
 }
 
-/// The operands and the type of an addition.
-#[derive(Clone, Copy)]
-struct Addition {
+fn write_operands(
+    out: &mut Vec<u8>,
+    inside: &Inside<'_>,
+    left: Arg,
+    right: Arg,
+) -> Result<(), Memory>
+    ensures { OnOk result (out.new.items ≡ out.old.items ++ operands_text inside.now.args inside.now.results inside.now.payload.now left right) }
+{
+    write_local(out, inside, left)?;
+    out.extend_from_slice(b", ")?;
+    write_local(out, inside, right)
+}
+
+/// Two operands, and the type that is written for them.
+fn write_typed(
+    out: &mut Vec<u8>,
+    inside: &Inside<'_>,
     left: Arg,
     right: Arg,
     elem: ElemTy,
-}
-
-fn write_addition(
-    out: &mut Vec<u8>,
-    locals: Locals,
-    number: u64,
-    sum: Addition,
 ) -> Result<(), Memory>
-    ensures { OnOk result (out.new.items ≡ out.old.items ++ addition_text locals.args locals.inputs locals.results number sum.left sum.right sum.elem) }
+    ensures { OnOk result (out.new.items ≡ out.old.items ++ typed_text inside.now.args inside.now.results inside.now.payload.now left right (elem_text elem)) }
 {
-    write_name(out, Given::Result(locals.results + number as u128))?;
-    out.extend_from_slice(b" = arith.addi ")?;
-    write_local(out, locals, sum.left)?;
-    out.extend_from_slice(b", ")?;
-    write_local(out, locals, sum.right)?;
+    write_operands(out, inside, left, right)?;
     out.extend_from_slice(b" : ")?;
-    write_elem(out, sum.elem)
+    write_elem(out, elem)
 }
 
-fn write_step(
+fn write_binary(
     out: &mut Vec<u8>,
-    locals: Locals,
-    number: u64,
-    step: &PayloadStep,
+    inside: &Inside<'_>,
+    op: BinOp,
+    operands: (Arg, Arg),
+    elem: ElemTy,
 ) -> Result<(), Memory>
-    ensures { OnOk result (out.new.items ≡ out.old.items ++ step_text locals.args locals.inputs locals.results number step.now.ty step.now.op) }
+    ensures { OnOk result (out.new.items ≡ out.old.items ++ binary_step_text inside.now.args inside.now.results inside.now.payload.now op operands.0 operands.1 elem) }
 {
+    out.extend_from_slice(binary_text(op))?;
+    out.extend_from_slice(b" ")?;
+    write_typed(out, inside, operands.0, operands.1, elem)
+}
+
+fn write_compare(
+    out: &mut Vec<u8>,
+    inside: &Inside<'_>,
+    predicate: Predicate,
+    left: Arg,
+    right: Arg,
+) -> Result<(), Memory>
+    ensures { OnOk result (out.new.items ≡ out.old.items ++ compare_step_text inside.now.args inside.now.results inside.now.payload.now predicate left right) }
+{
+    out.extend_from_slice(b"arith.cmpi ")?;
+    out.extend_from_slice(predicate_text(predicate))?;
+    out.extend_from_slice(b", ")?;
+    write_operands(out, inside, left, right)?;
+    out.extend_from_slice(b" : ")?;
+    write_arg_type(out, inside.payload, left)
+}
+
+fn write_select(
+    out: &mut Vec<u8>,
+    inside: &Inside<'_>,
+    condition: Arg,
+    operands: (Arg, Arg),
+    elem: ElemTy,
+) -> Result<(), Memory>
+    ensures { OnOk result (out.new.items ≡ out.old.items ++ select_step_text inside.now.args inside.now.results inside.now.payload.now condition operands.0 operands.1 elem) }
+{
+    out.extend_from_slice(b"arith.select ")?;
+    write_local(out, inside, condition)?;
+    out.extend_from_slice(b", ")?;
+    write_typed(out, inside, operands.0, operands.1, elem)
+}
+
+/// An operand, its type, and the type that it is changed to.
+#[tactic(auto, unfolding(crate::specs::PayloadParts::conversion_text))]
+fn write_conversion(
+    out: &mut Vec<u8>,
+    inside: &Inside<'_>,
+    value: Arg,
+    to: ElemTy,
+) -> Result<(), Memory>
+    ensures { OnOk result (out.new.items ≡ out.old.items ++ conversion_text inside.now.args inside.now.results inside.now.payload.now value to) }
+{
+    write_local(out, inside, value)?;
+    out.extend_from_slice(b" : ")?;
+    write_arg_type(out, inside.payload, value)?;
+    out.extend_from_slice(b" to ")?;
+    write_elem(out, to)
+}
+
+fn write_cast(
+    out: &mut Vec<u8>,
+    inside: &Inside<'_>,
+    cast: Cast,
+    value: Arg,
+    to: ElemTy,
+) -> Result<(), Memory>
+    ensures { OnOk result (out.new.items ≡ out.old.items ++ cast_step_text inside.now.args inside.now.results inside.now.payload.now cast value to) }
+{
+    out.extend_from_slice(cast_text(cast))?;
+    out.extend_from_slice(b" ")?;
+    write_conversion(out, inside, value, to)
+}
+
+fn write_index(out: &mut Vec<u8>, dimension: u32) -> Result<(), Memory>
+    ensures { OnOk result (out.new.items ≡ out.old.items ++ index_step_text dimension) }
+{
+    out.extend_from_slice(b"linalg.index ")?;
+    write_number(out, dimension)?;
+    out.extend_from_slice(b" : index")?;
+    Ok(())
+}
+
+fn write_constant(out: &mut Vec<u8>, elem: ElemTy, value: u64) -> Result<(), Memory>
+    ensures { OnOk result (out.new.items ≡ out.old.items ++ (codes "arith.constant " ++ literal_text elem value)) }
+{
+    out.extend_from_slice(b"arith.constant ")?;
+    write_literal(out, &elem, value)
+}
+
+fn write_index_cast(
+    out: &mut Vec<u8>,
+    inside: &Inside<'_>,
+    value: Arg,
+    to: ElemTy,
+) -> Result<(), Memory>
+    ensures { OnOk result (out.new.items ≡ out.old.items ++ (codes "arith.index_cast " ++ conversion_text inside.now.args inside.now.results inside.now.payload.now value to)) }
+{
+    out.extend_from_slice(b"arith.index_cast ")?;
+    write_conversion(out, inside, value, to)
+}
+
+fn write_operation(out: &mut Vec<u8>, inside: &Inside<'_>, step: &PayloadStep) -> Result<(), Memory>
+    ensures { OnOk result (out.new.items ≡ out.old.items ++ operation_text inside.now.args inside.now.results inside.now.payload.now step.now.ty step.now.op) }
+{
+    let elem = step.ty;
     match &step.op {
-        StepOp::Binary(BinOp::Addi, left, right) => {
-            let sum = Addition {
-                left: *left,
-                right: *right,
-                elem: step.ty,
-            };
-            write_addition(out, locals, number, sum)
+        StepOp::Const(value) => write_constant(out, elem, *value),
+        StepOp::Index(dimension) => write_index(out, *dimension),
+        StepOp::Binary(op, left, right) => write_binary(out, inside, *op, (*left, *right), elem),
+        StepOp::Compare(predicate, left, right) => {
+            write_compare(out, inside, *predicate, *left, *right)
         }
-        _ => write_unbuilt(out),
+        StepOp::Select(condition, chosen, other) => {
+            write_select(out, inside, *condition, (*chosen, *other), elem)
+        }
+        StepOp::SignExtend(value) => write_cast(out, inside, Cast::SignExtend, *value, elem),
+        StepOp::ZeroExtend(value) => write_cast(out, inside, Cast::ZeroExtend, *value, elem),
+        StepOp::Truncate(value) => write_cast(out, inside, Cast::Truncate, *value, elem),
+        StepOp::IndexCast(value) => write_index_cast(out, inside, *value, elem),
+        StepOp::Captured(_) | StepOp::Linear { .. } => write_unbuilt(out),
     }
 }
 
-fn write_steps(out: &mut Vec<u8>, locals: Locals, steps: &[PayloadStep]) -> Result<(), Memory>
-    ensures { OnOk result (out.new.items ≡ out.old.items ++ steps_text locals.args locals.inputs locals.results 0 steps.now) }
+#[tactic(auto, unfolding(crate::specs::PayloadParts::step_text))]
+fn write_step(
+    out: &mut Vec<u8>,
+    inside: &Inside<'_>,
+    number: u64,
+    step: &PayloadStep,
+) -> Result<(), Memory>
+    ensures { OnOk result (out.new.items ≡ out.old.items ++ step_text inside.now.args inside.now.results inside.now.payload.now number step.now.ty step.now.op) }
+{
+    write_name(out, Given::Result(inside.results + number as u128))?;
+    out.extend_from_slice(b" = ")?;
+    write_operation(out, inside, step)
+}
+
+fn write_steps(out: &mut Vec<u8>, inside: &Inside<'_>, steps: &[PayloadStep]) -> Result<(), Memory>
+    ensures { OnOk result (out.new.items ≡ out.old.items ++ steps_text inside.now.args inside.now.results inside.now.payload.now 0 steps.now) }
 {
     let mut number = 0u64;
     for step in steps {
         out.extend_from_slice(b"\n      ")?;
-        write_step(out, locals, number, step)?;
+        write_step(out, inside, number, step)?;
         number += 1;
     }
     Ok(())
 }
 
-fn write_yield(out: &mut Vec<u8>, locals: Locals, yielded: Arg, elem: ElemTy) -> Result<(), Memory>
-    ensures { OnOk result (out.new.items ≡ out.old.items ++ yield_text locals.args locals.inputs locals.results yielded elem) }
+fn write_yield(out: &mut Vec<u8>, inside: &Inside<'_>) -> Result<(), Memory>
+    ensures { OnOk result (out.new.items ≡ out.old.items ++ yield_text inside.now.args inside.now.results inside.now.payload.now) }
 {
     out.extend_from_slice(b"\n      linalg.yield ")?;
-    write_local(out, locals, yielded)?;
+    write_local(out, inside, inside.payload.yielded())?;
     out.extend_from_slice(b" : ")?;
-    write_elem(out, elem)
+    write_elem(out, inside.payload.out())
 }
 
 fn write_block(
     out: &mut Vec<u8>,
-    locals: Locals,
+    inside: &Inside<'_>,
     inputs: &[ElemTy],
     output: &ElemTy,
     steps: &[PayloadStep],
-    yielded: Arg,
 ) -> Result<(), Memory>
-    ensures { OnOk result (out.new.items ≡ out.old.items ++ block_text locals.args locals.inputs locals.results inputs.now output.now steps.now yielded) }
+    ensures { OnOk result (out.new.items ≡ out.old.items ++ block_text inside.now.args inside.now.results inside.now.payload.now inputs.now output.now steps.now) }
 {
     out.extend_from_slice(b"^bb0(")?;
-    write_block_args(out, locals.args, inputs, *output)?;
+    write_block_args(out, inside.args, inputs, *output)?;
     out.extend_from_slice(b"):")?;
-    write_steps(out, locals, steps)?;
-    write_yield(out, locals, yielded, *output)
+    write_steps(out, inside, steps)?;
+    write_yield(out, inside)
 }
 
 /// The region of a payload, where the numbers of arguments and of results begin at these.
@@ -153,19 +307,16 @@ pub fn write_region(
     requires results_fit { results ≤ 2 ^ 127 }
     ensures { OnOk result (out.new.items ≡ out.old.items ++ region_text args results payload.now) }
 {
-    let inputs = payload.ins();
-    let output = payload.out();
-    let locals = Locals {
+    let inside = Inside {
         args,
-        inputs: inputs.len() as u64,
         results,
+        payload,
     };
     write_block(
         out,
-        locals,
-        inputs.as_slice(),
-        &output,
+        &inside,
+        payload.ins().as_slice(),
+        &payload.out(),
         payload.steps().as_slice(),
-        payload.yielded(),
     )
 }

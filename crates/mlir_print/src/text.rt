@@ -3,12 +3,13 @@
 ghost use Rattle.std.specs.Prelude.{◌≡◌, ◌++◌, ◌∷◌, [], OnOk, IfOk};
 ghost use Rattle.mlir_print.specs.Names.{nothing};
 ghost use Rattle.mlir_print.specs.Canonical.{after_params, text_of};
-ghost use Rattle.mlir_print.specs.Parts.{param_text, params_text, body_text, results_text, opening_text, signature_text, func_text, function_text, functions_text, module_text, whole_text, after_ops_texts, after_funcs_texts, after_op_texts};
+ghost use Rattle.mlir_print.specs.MapParts.{after_ops_texts, after_funcs_texts, after_op_texts};
+ghost use Rattle.mlir_print.specs.Parts.{param_text, params_text, body_text, result_types_text, results_text, opening_text, signature_text, func_text, function_text, functions_text, module_text, whole_text};
 
 use crate::aliases::{Aliases, add_maps};
 use crate::names::{Given, Names};
 use crate::operations::{define, write_line};
-use crate::types::{write_name, write_type, write_unbuilt};
+use crate::types::{write_name, write_type};
 use mlir_ir::{Func, Module, Op, OpKind, Ty, ValueId};
 use payload_ops::{List, Memory};
 use std::alloc::Global;
@@ -55,12 +56,33 @@ fn write_body<'a>(
     Ok(())
 }
 
+fn write_result_types(out: &mut Vec<u8>, types: &[Ty]) -> Result<(), Memory>
+    ensures { OnOk result (out.new.items ≡ out.old.items ++ result_types_text [] types.now) }
+{
+    let mut before: &[u8] = b"";
+    for ty in types {
+        out.extend_from_slice(before)?;
+        write_type(out, ty)?;
+        before = b", ";
+    }
+    Ok(())
+}
+
 fn write_results(out: &mut Vec<u8>, results: &[Ty]) -> Result<(), Memory>
     ensures { OnOk result (out.new.items ≡ out.old.items ++ results_text results.now) }
 {
     match results {
-        [ty] => write_type(out, ty),
-        _ => write_unbuilt(out),
+        [] => Ok(()),
+        [ty] => {
+            out.extend_from_slice(b" -> ")?;
+            write_type(out, ty)
+        }
+        _ => {
+            out.extend_from_slice(b" -> (")?;
+            write_result_types(out, results)?;
+            out.extend_from_slice(b")")?;
+            Ok(())
+        }
     }
 }
 
@@ -86,7 +108,7 @@ fn write_signature<'a>(
 {
     write_opening(out, name)?;
     write_params(out, names, params)?;
-    out.extend_from_slice(b") -> ")?;
+    out.extend_from_slice(b")")?;
     write_results(out, results)
 }
 
@@ -143,29 +165,29 @@ fn write_functions(
     Ok(())
 }
 
-fn add_op(alloc: Global, aliases: &mut Aliases, op: &Op) -> Result<(), Memory>
+fn add_op(aliases: &mut Aliases, op: &Op) -> Result<(), Memory>
     ensures { OnOk result (aliases.new ≡ after_op_texts aliases.old op.now) }
 {
     match &op.kind {
-        OpKind::Generic { maps, .. } => add_maps(alloc, aliases, maps.as_slice()),
+        OpKind::Generic { maps, .. } => add_maps(aliases, maps.as_slice()),
         _ => Ok(()),
     }
 }
 
-fn add_ops(alloc: Global, aliases: &mut Aliases, body: &[Op]) -> Result<(), Memory>
+fn add_ops(aliases: &mut Aliases, body: &[Op]) -> Result<(), Memory>
     ensures { OnOk result (aliases.new ≡ after_ops_texts aliases.old body.now) }
 {
     for op in body {
-        add_op(alloc, aliases, op)?;
+        add_op(aliases, op)?;
     }
     Ok(())
 }
 
-fn add_funcs(alloc: Global, aliases: &mut Aliases, funcs: &[Func]) -> Result<(), Memory>
+fn add_funcs(aliases: &mut Aliases, funcs: &[Func]) -> Result<(), Memory>
     ensures { OnOk result (aliases.new ≡ after_funcs_texts aliases.old funcs.now) }
 {
     for func in funcs {
-        add_ops(alloc, aliases, func.body.as_slice())?;
+        add_ops(aliases, func.body.as_slice())?;
     }
     Ok(())
 }
@@ -191,7 +213,7 @@ pub fn module_text(alloc: Global, ir: &Module) -> Result<List<u8>, Memory>
     ensures { IfOk result (λ text. text ≡ text_of ir.now) }
 {
     let mut aliases = Aliases::new(alloc);
-    add_funcs(alloc, &mut aliases, ir.funcs.as_slice())?;
+    add_funcs(&mut aliases, ir.funcs.as_slice())?;
     let mut out = Vec::new(alloc);
     write_module(alloc, &mut out, &aliases, ir.funcs.as_slice())?;
     Ok(List::from_vec(out))

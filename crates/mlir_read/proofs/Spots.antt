@@ -5,7 +5,7 @@ use Rattle.std.proofs.lemmas.Bool.{cond-true, cond-false}
 use Rattle.std.proofs.lemmas.List.{append-nil}
 use Rattle.std.proofs.lemmas.Slice.Eq.{bytes_eq-Decides}
 use Rattle.mlir_read.specs.declared.names.Meaning.{Meaning}
-use Rattle.mlir_read.specs.Names.{Entry, entry, find, spot, FreshFrom}
+use Rattle.mlir_read.specs.Names.{Entry, entry, find, spot, place, FreshFrom}
 
 none_if : {A B : Type 0} (b : Bool) (x : A) (y : B) (o : Option A) (p : Option B) → (o ≡ None → p ≡ None) → cond b (Some x) o ≡ None → cond b (Some y) p ≡ None
 none_if true x y o p f h = absurd (cc h)
@@ -95,3 +95,25 @@ pub left : (items : List Entry) (e : Entry) (g h : List ℕ → Option ℕ) → 
 left items e g h v i f =
     let r = fresh_front [] items e f in
     ((λ q. undone items e.name (λ p. spot 0 items p) g h (0 + length items) (λ p. i p ∙ spot_last 0 items e.name e.means p r.1) v (λ p. refl) r.1 q), r.0)
+
+-- ---- lists of names
+
+none_rest : (b : Bool) (k : ℕ) (o : Option ℕ) → cond b (Some k) o ≡ None → (b ≡ true → ⊥) × (o ≡ None)
+none_rest true k o h = absurd (cc h)
+none_rest false k o h = ((λ e. absurd (cc e)), h)
+
+-- a new name stands last
+place_last : (k : ℕ) (ns : List (List ℕ)) (n q : List ℕ) → place k ns n ≡ None → place k (ns ++ n ∷ []) q ≡ cond (bytes_eq n q) (Some (k + length ns)) (place k ns q)
+place_last k [] n q h = let z : k ≡ k + 0 = omega arith in ap (λ j. cond (bytes_eq n q) (Some j) None) z
+place_last k (x ∷ ns) n q h =
+    let r = none_rest (bytes_eq x n) k (place (suc k) ns n) h in
+    let z : suc k + length ns ≡ k + suc (length ns) = omega arith in
+    let ih = place_last (suc k) ns n q r.1 ∙ ap (λ j. cond (bytes_eq n q) (Some j) (place (suc k) ns q)) z in
+    last_if (bytes_eq x q) (bytes_eq n q) k (k + suc (length ns)) (place (suc k) ns q) (place (suc k) (ns ++ n ∷ []) q)
+    (λ b c. r.0 ((bytes_eq-Decides x n).1 ((bytes_eq-Decides x q).0 b ∙ sym ((bytes_eq-Decides n q).0 c)))) ih
+
+pub name_added : (old : List (List ℕ)) (name : List ℕ) (f g : List ℕ → Option ℕ) (n : ℕ) → ((q : List ℕ) → g q ≡ cond (bytes_eq name q) (Some n) (f q)) → n ≡ length old → ((q : List ℕ) → f q ≡ place 0 old q) → place 0 old name ≡ None
+    → (q : List ℕ) → g q ≡ place 0 (old ++ name ∷ []) q
+name_added old name f g n u e i none q =
+    let z : n ≡ 0 + length old = omega arith in
+    u q ∙ ap (λ k. cond (bytes_eq name q) (Some k) (f q)) z ∙ ap (λ o. cond (bytes_eq name q) (Some (0 + length old)) o) (i q) ∙ sym (place_last 0 old name q none)

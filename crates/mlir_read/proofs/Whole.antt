@@ -13,12 +13,13 @@ use Rattle.text_format.specs.Places.{is_found, is_read, is_fault}
 use Rattle.mlir_ir.specs.declared.tree.Module.{Module}
 use Rattle.mlir_lex.specs.declared.read_error.ReadError.{ReadError}
 use Rattle.mlir_lex.specs.declared.read_error.ReadError.TheVariants as errors
-use Rattle.mlir_syntax.specs.Grammar.{text}
-use Rattle.mlir_syntax.specs.Laws.{text-whole}
-use Rattle.mlir_read.specs.declared.fault.Fault.{Fault}
+use Rattle.mlir_syntax.specs.Files.{text}
+use Rattle.mlir_syntax.specs.FileLaws.{text-whole}
+use Rattle.mlir_lex.specs.declared.fault.Fault.{Fault}
 use Rattle.mlir_read.specs.declared.read.File.{File}
-use Rattle.mlir_read.specs.Resolve.{item_in, resolve}
-use Rattle.mlir_read.specs.Reading.{StandsFor, behind, place_of, fault_error, stop_error, earlier, first_of, of_tree, of_tokens, of_lexed, reading, Answers, Gives, Stops, Leads, Finds, IsFaultBy, HasFault, Tells}
+use Rattle.mlir_read.specs.Resolve.{resolve}
+use Rattle.mlir_lex.specs.Faults.{reach_of, fault_error, stop_error, earlier, first_of}
+use Rattle.mlir_read.specs.Reading.{StandsFor, behind, of_tree, of_tokens, of_lexed, reading, Answers, Gives, Stops, Leads, Finds, IsFaultBy, HasFault, Tells}
 
 abbrev read_in : Module → Result Module ReadError → Module
 read_in d (Ok x) = x
@@ -39,8 +40,8 @@ found_by source m (Err (lexed.Byte at)) e h = absurd (cc h)
 found_by source m (Err (lexed.Unclosed at)) e h = absurd (cc h)
 found_by source m (Ok ts) e h =
     let r = text.read (live (length source) (tokens_in source ts)) in
-    let k = first_ok m (resolve r.0) (end_of (behind (item_in r.0)) r.1) h in
-    (r.0, (ts, e, is_found text text-whole (behind (item_in r.0)) (length source) (tokens_in source ts) r.0 r.1 refl k.1), k.0)
+    let k = first_ok m (resolve r.0) (end_of (behind r.0) r.1) h in
+    (r.0, (ts, e, is_found text text-whole (behind r.0) (length source) (tokens_in source ts) r.0 r.1 refl k.1), k.0)
 
 found : (source : List ℕ) (m : Module) → reading source ≡ Ok m → StandsFor source m
 found source m h = found_by source m (lexed.tokens_of source) refl h
@@ -77,7 +78,7 @@ abbrev ByStop : Option Stop → ReadError → Type 0
 ByStop s e = (p : Stop) × (s ≡ Some p) × (e ≡ stop_error p)
 
 abbrev ByTree : Result Module Fault → Option Stop → ReadError → Type 0
-ByTree a s e = (x : Fault) × (a ≡ Err x) × (e ≡ fault_error x) × BeforeStop (place_of x) s
+ByTree a s e = (x : Fault) × (a ≡ Err x) × (e ≡ fault_error x) × BeforeStop (reach_of x) s
 
 abbrev error_in : ReadError → Result Module ReadError → ReadError
 error_in d (Ok m) = d
@@ -86,15 +87,15 @@ error_in d (Err e) = e
 err_same : (x y : ReadError) → ◌≡◌ {A = Result Module ReadError} (Err x) (Err y) → y ≡ x
 err_same x y h = sym (ap (error_in x) h)
 
-earlier_by : (b : Bool) (x : Fault) (p : Stop) (e : ReadError) → nat_lt (place_of x) p.at ≡ b → ◌≡◌ {A = Result Module ReadError} (Err (earlier b x p)) (Err e) → ByStop (Some p) e ⊎ ByTree (Err x) (Some p) e
-earlier_by true x p e b h = inr (x, refl, err_same (fault_error x) e h, ltb-true (place_of x) p.at b)
+earlier_by : (b : Bool) (x : Fault) (p : Stop) (e : ReadError) → nat_lt (reach_of x) p.at ≡ b → ◌≡◌ {A = Result Module ReadError} (Err (earlier b x p)) (Err e) → ByStop (Some p) e ⊎ ByTree (Err x) (Some p) e
+earlier_by true x p e b h = inr (x, refl, err_same (fault_error x) e h, ltb-true (reach_of x) p.at b)
 earlier_by false x p e b h = inl (p, refl, err_same (stop_error p) e h)
 
 by_parts : (a : Result Module Fault) (s : Option Stop) (e : ReadError) → first_of a s ≡ Err e → ByStop s e ⊎ ByTree a s e
 by_parts (Ok m) None e h = absurd (cc h)
 by_parts (Err x) None e h = inr (x, refl, err_same (fault_error x) e h, tt)
 by_parts (Ok m) (Some p) e h = inl (p, refl, err_same (stop_error p) e h)
-by_parts (Err x) (Some p) e h = earlier_by (nat_lt (place_of x) p.at) x p e refl h
+by_parts (Err x) (Some p) e h = earlier_by (nat_lt (reach_of x) p.at) x p e refl h
 
 leads : (wanted : Class) (end : ℕ) (is : List Spelled) (ts : List TokenShape) (s : State) (at : ℕ) → ConsumesFrom end is ts s → BeforeStop at (end_of wanted s) → Leads ts is at
 unfolding end_of
@@ -108,15 +109,15 @@ tree_fault : (source : List ℕ) (ts : List Span) (e : ReadError) → of_tokens 
 unfolding of_tokens
 tree_fault source ts e h =
     let r = text.read (live (length source) (tokens_in source ts)) in
-    by (by_parts (resolve r.0) (end_of (behind (item_in r.0)) r.1) e h)
+    by (by_parts (resolve r.0) (end_of (behind r.0) r.1) e h)
   where
-    by : (let r = text.read (live (length source) (tokens_in source ts)) in ByStop (end_of (behind (item_in r.0)) r.1) e ⊎ ByTree (resolve r.0) (end_of (behind (item_in r.0)) r.1) e) → Stops source ts e ⊎ Finds source ts e
+    by : (let r = text.read (live (length source) (tokens_in source ts)) in ByStop (end_of (behind r.0) r.1) e ⊎ ByTree (resolve r.0) (end_of (behind r.0) r.1) e) → Stops source ts e ⊎ Finds source ts e
     by (inl k) =
         let r = text.read (live (length source) (tokens_in source ts)) in
-        inl (item_in r.0, k.0, is_fault text text-whole (behind (item_in r.0)) (length source) (tokens_in source ts) r.0 r.1 k.0 refl k.1, k.2)
+        inl (r.0, k.0, is_fault text text-whole (behind r.0) (length source) (tokens_in source ts) r.0 r.1 k.0 refl k.1, k.2)
     by (inr k) =
         let r = text.read (live (length source) (tokens_in source ts)) in
-        inr (r.0, k.0, k.1, k.2, leads (behind (item_in r.0)) (length source) (text.spell r.0) (tokens_in source ts) r.1 (place_of k.0) (text-whole.reads (live (length source) (tokens_in source ts))) k.3)
+        inr (r.0, k.0, k.1, k.2, leads (behind r.0) (length source) (text.spell r.0) (tokens_in source ts) r.1 (reach_of k.0) (text-whole.reads (live (length source) (tokens_in source ts))) k.3)
 
 fault_by : (source : List ℕ) (e : ReadError) (o : Result (List Span) lexed.Fault) → of_lexed source o ≡ Err e → IsFaultBy source e o
 fault_by source e (Ok ts) h = tree_fault source ts e h

@@ -25,6 +25,11 @@ abbrev pub spot : ℕ → List Entry → List ℕ → Option ℕ
 spot k [] n = None
 spot k (e ∷ es) n = if bytes_eq e.name n then Some k else spot (suc k) es n
 
+-- where the name stands in a list of names, from this number on
+abbrev pub place : ℕ → List (List ℕ) → List ℕ → Option ℕ
+place k [] n = None
+place k (x ∷ xs) n = if bytes_eq x n then Some k else place (suc k) xs n
+
 -- no name is defined while it is in scope
 abbrev pub FreshFrom : List Entry → List Entry → Type 0
 FreshFrom before [] = Unit {0}

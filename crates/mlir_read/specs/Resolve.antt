@@ -1,128 +1,43 @@
 -- What a tree stands for, or its first fault: one chain in the order of the tokens.
--- Operations and values are numbered 0, 1 and so on in the order in which they are defined.
-use Rattle.std.specs.Prelude.{ℕ, suc, Bool, false, List, [], ◌∷◌, ◌++◌, map, length, drop, Result, Ok, Err, Option, Some, None, nat_lt}
+-- Operations and values are numbered 0, 1 and so on through all functions, in the order in which they are defined.
+use Rattle.std.specs.Prelude.{ℕ, ◌*◌, ◌≤◌, suc, Bool, true, false, not, List, [], ◌∷◌, ◌++◌, map, drop, Result, Ok, Err, Option, Some, None, is_none, nat_lt}
 use Rattle.std.specs.List.{list_all}
-use Rattle.std.specs.Str.{bytes_eq}
-use Rattle.payload_ops.specs.declared.kinds.ElemTy.{ElemTy}
-use Rattle.payload_ops.specs.Shape.{PayloadShape}
-use Rattle.affine_maps.specs.Shape.{MapShape}
-use Rattle.affine_maps.specs.Map.{identity_of}
 use Rattle.mlir_ir.specs.declared.tree.Ty.{Ty}
 use Rattle.mlir_ir.specs.declared.tree.ValueId.{ValueId}
-use Rattle.mlir_ir.specs.declared.tree.Iter.TheVariants.{Parallel}
-use Rattle.mlir_ir.specs.declared.tree.OpKind.{OpKind}
 use Rattle.mlir_ir.specs.declared.tree.OpKind.TheVariants as kinds
 use Rattle.mlir_ir.specs.declared.tree.Op.{Op}
 use Rattle.mlir_ir.specs.declared.tree.Module.{Module}
 use Rattle.mlir_ir.specs.declared.tree.Which.TheVariants as limits
 use Rattle.mlir_ir.specs.Shape.{FuncShape}
 use Rattle.text_format.specs.Token.{TokenShape}
-use Rattle.mlir_syntax.specs.declared.tree.AliasUse.{AliasUse}
-use Rattle.mlir_syntax.specs.declared.tree.NextInput.{NextInput}
-use Rattle.mlir_syntax.specs.declared.tree.NextType.{NextType}
-use Rattle.mlir_syntax.specs.declared.tree.Operands.{Operands}
-use Rattle.mlir_syntax.specs.declared.tree.Generic.{Generic}
-use Rattle.mlir_syntax.specs.declared.tree.Operation.{Operation}
-use Rattle.mlir_syntax.specs.declared.tree.Operation.TheVariants as operations
-use Rattle.mlir_syntax.specs.declared.tree.Statement.{Statement}
-use Rattle.mlir_syntax.specs.declared.tree.Function.{Function}
-use Rattle.mlir_syntax.specs.declared.tree.ReturnName.{ReturnName}
-use Rattle.mlir_syntax.specs.declared.tree.ReturnName.TheVariants.{Short, Long}
-use Rattle.mlir_syntax.specs.declared.tree.Item.{Item}
-use Rattle.mlir_syntax.specs.declared.tree.Item.TheVariants.{Bare, Inside}
-use Rattle.mlir_syntax.specs.declared.tree.Text.{Text}
-use Rattle.mlir_syntax.specs.declared.tree.Text.TheVariants.{First, Last}
-use Rattle.mlir_read.specs.declared.names.Meaning.TheVariants.{Held}
+use Rattle.mlir_syntax.specs.declared.tree.files.AliasLine.{AliasLine}
+use Rattle.mlir_syntax.specs.declared.tree.files.ReturnName.{ReturnName}
+use Rattle.mlir_syntax.specs.declared.tree.files.ReturnName.TheVariants.{Short, Long}
+use Rattle.mlir_syntax.specs.declared.tree.files.ResultTypes.{ResultTypes}
+use Rattle.mlir_syntax.specs.declared.tree.files.ResultTypes.TheVariants.{One, Several}
+use Rattle.mlir_syntax.specs.declared.tree.files.NextValue.{NextValue}
+use Rattle.mlir_syntax.specs.declared.tree.files.ReturnType.{ReturnType}
+use Rattle.mlir_syntax.specs.declared.tree.files.ReturnedValues.{ReturnedValues}
+use Rattle.mlir_syntax.specs.declared.tree.files.Returned.{Returned}
+use Rattle.mlir_syntax.specs.declared.tree.files.Returned.TheVariants.{Nothing, Values}
+use Rattle.mlir_syntax.specs.declared.tree.files.Function.{Function}
+use Rattle.mlir_syntax.specs.declared.tree.files.Item.{Item}
+use Rattle.mlir_syntax.specs.declared.tree.files.Item.TheVariants as items
+use Rattle.mlir_syntax.specs.declared.tree.files.Text.{Text}
 use Rattle.mlir_read.specs.declared.names.Scope.{Scope}
-use Rattle.mlir_read.specs.declared.fault.Fault.{Fault}
-use Rattle.mlir_read.specs.declared.fault.Fault.TheVariants.{Syntax, UnknownName, Limit}
-use Rattle.mlir_read.specs.Chain.{and_then, demand, each, thread}
-use Rattle.mlir_read.specs.Names.{Entry, entry}
-use Rattle.mlir_read.specs.Types.{type_at, same_type, elem_of}
-use Rattle.mlir_read.specs.Scope.{fresh, value, typed_as, params_of}
-use Rattle.mlir_read.specs.Payload.{payload_of}
+use Rattle.mlir_read.specs.declared.files.Stage.{Stage}
+use Rattle.mlir_read.specs.declared.files.Stage.TheVariants.{Start, Functions, Closed}
+use Rattle.mlir_read.specs.declared.files.FileScope.{FileScope}
+use Rattle.mlir_lex.specs.declared.fault.Fault.{Fault}
+use Rattle.mlir_lex.specs.declared.fault.Fault.TheVariants.{Syntax, Twice, Limit}
+use Rattle.mlir_lex.specs.Chain.{and_then, demand, each, thread}
+use Rattle.mlir_read.specs.Names.{Entry, place}
+use Rattle.mlir_read.specs.Maps.{AliasShape, alias_in}
+use Rattle.mlir_read.specs.Types.{type_at}
+use Rattle.mlir_read.specs.Scope.{value_id, typed_as, params_of}
+use Rattle.mlir_read.specs.Operations.{statements_of, room}
 
--- ---- maps
-
-abbrev pub is_alias : Option (List ℕ) → List ℕ → Bool
-is_alias None name = false
-is_alias (Some alias) name = bytes_eq alias name
-
--- the map of an alias in scope: (d0) -> (d0)
-abbrev pub map_of : Option (List ℕ) → AliasUse → Result MapShape Fault
-map_of alias u = and_then (demand (is_alias alias u.name.text) (UnknownName u.name.start)) (λ _. Ok (identity_of 1))
-
--- ---- operands
-
--- operand k of a generic: its number and its element type
-abbrev pub operand_of : List Entry → ℕ → TokenShape → Result (ValueId × ElemTy) Fault
-operand_of env k t =
-    and_then (value env t) (λ v. and_then (demand (nat_lt k 64) (Limit limits.Operands t.start)) (λ _. Ok (record { 0 = v.0 }, elem_of v.1)))
-
-abbrev pub more_inputs : List Entry → ℕ → List NextInput → Result (List (ValueId × ElemTy)) Fault
-more_inputs env k [] = Ok []
-more_inputs env k (n ∷ ns) = and_then (operand_of env k n.name) (λ v. and_then (more_inputs env (suc k) ns) (λ vs. Ok (v ∷ vs)))
-
-abbrev pub inputs_of : List Entry → Operands → Result (List (ValueId × ElemTy)) Fault
-inputs_of env o = and_then (operand_of env 0 o.first) (λ v. and_then (more_inputs env 1 o.more) (λ vs. Ok (v ∷ vs)))
-
--- the types behind the first, one for each input; `close` ends them
-abbrev pub more_types : TokenShape → List Entry → List NextInput → List NextType → Result (Unit {0}) Fault
-more_types close env [] [] = Ok tt
-more_types close env [] (t ∷ ts) = Err (Syntax t.comma.start)
-more_types close env (n ∷ ns) [] = Err (Syntax close.start)
-more_types close env (n ∷ ns) (t ∷ ts) = and_then (typed_as env n.name t.ty) (λ _. more_types close env ns ts)
-
-abbrev pub input_types : List Entry → Operands → Result (Unit {0}) Fault
-input_types env o = and_then (typed_as env o.first o.types.first) (λ _. more_types o.types.close env o.more o.types.more)
-
--- the inputs and the output
-abbrev pub operands_of : List Entry → Operands → Result (List (ValueId × ElemTy) × (ValueId × ElemTy)) Fault
-operands_of env o =
-    and_then (inputs_of env o) (λ ins. and_then (input_types env o) (λ _. and_then (operand_of env (length ins) o.output) (λ out.
-    and_then (typed_as env o.output o.output_type) (λ _. Ok (ins, out)))))
-
--- ---- operations
-
--- one more operation is within the limit
-abbrev pub room : ℕ → TokenShape → Result (Unit {0}) Fault
-room ops t = demand (nat_lt ops 65536) (Limit limits.Operations t.start)
-
--- the operation on these inputs and this output; nothing is captured
-abbrev pub generic_with : List MapShape → List (ValueId × ElemTy) → ValueId → PayloadShape → OpKind
-generic_with maps ins out payload = kinds.Generic maps (Parallel ∷ []) (map (λ v. v.0) ins) out [] payload
-
-abbrev pub generic_of : Option (List ℕ) → List Entry → Generic → Result (Ty × OpKind) Fault
-generic_of alias env g =
-    and_then (each (map_of alias) g.maps) (λ maps.
-    and_then (operands_of env g.operands) (λ o.
-    and_then (payload_of env (map (λ v. v.1) o.0) o.1.1 g.region) (λ p.
-    and_then (type_at g.result_type) (λ ty.
-    Ok (ty, generic_with maps o.0 o.1.0 p)))))
-
--- the type of the result, and the operation
-abbrev pub operation_of : Option (List ℕ) → Scope → Operation → Result (Ty × OpKind) Fault
-operation_of alias s (operations.Empty e) = and_then (room s.ops e.name) (λ _. and_then (type_at e.ty) (λ ty. Ok (ty, kinds.Empty [])))
-operation_of alias s (operations.Generic g) = and_then (room s.ops g.name) (λ _. generic_of alias s.env g)
-
--- the scope behind the next operation, whose result has this name and this type
-abbrev pub next_scope : Scope → List ℕ → Ty → Scope
-next_scope s name ty = record { env = s.env ++ entry name (Held s.values ty) ∷ []; values = suc s.values; ops = suc s.ops }
-
-abbrev pub numbered_op : ℕ → ℕ → Ty → OpKind → Op
-numbered_op number value ty kind = record { id = record { 0 = number }; results = (record { 0 = value }, ty) ∷ []; kind = kind }
-
--- the next operation gives the next value
-abbrev pub numbered : Scope → List ℕ → Ty × OpKind → Scope × Op
-numbered s name k = (next_scope s name k.0, numbered_op s.ops s.values k.0 k.1)
-
-abbrev pub statement_of : Option (List ℕ) → Scope → Statement → Result (Scope × Op) Fault
-statement_of alias s o = and_then (fresh s.env o.result) (λ _. and_then (operation_of alias s o.operation) (λ k. Ok (numbered s o.result.text k)))
-
-abbrev pub statements_of : Option (List ℕ) → Scope → List Statement → Result (Scope × List Op) Fault
-statements_of alias s os = thread (statement_of alias) s os
-
--- ---- functions
+-- ---- names
 
 abbrev pub is_ascii : ℕ → Bool
 is_ascii b = nat_lt b 128
@@ -130,48 +45,127 @@ is_ascii b = nat_lt b 128
 abbrev pub named : ℕ → List ℕ → Result (List ℕ) Fault
 named at name = and_then (demand (list_all is_ascii name) (Syntax at)) (λ _. Ok name)
 
--- a symbol without its @; each byte of a symbol is ASCII
+-- a symbol without its @
+abbrev pub symbol_of : TokenShape → List ℕ
+symbol_of t = drop 1 t.text
+
+-- each byte of a symbol is ASCII
 abbrev pub name_of : TokenShape → Result (List ℕ) Fault
-name_of t = named t.start (drop 1 t.text)
+name_of t = named t.start (symbol_of t)
+
+-- the name, which stands at a place, is none of these
+abbrev pub unknown : List (List ℕ) → ℕ → List ℕ → Result (Unit {0}) Fault
+unknown names at name = demand (is_none (place 0 names name)) (Twice at)
+
+-- ---- results
+
+-- result k of a function
+abbrev pub result_at : ℕ → TokenShape → Result Ty Fault
+result_at k t = and_then (demand (nat_lt k 16) (Limit limits.Results t.start)) (λ _. type_at t)
+
+abbrev pub results_from : ℕ → List TokenShape → Result (List Ty) Fault
+results_from k [] = Ok []
+results_from k (t ∷ ts) = and_then (result_at k t) (λ ty. and_then (results_from (suc k) ts) (λ tys. Ok (ty ∷ tys)))
+
+abbrev pub types_in : Option ResultTypes → List TokenShape
+types_in None = []
+types_in (Some (One t)) = t ∷ []
+types_in (Some (Several s)) = s.first ∷ s.second ∷ map (λ n. n.ty) s.more
+
+abbrev pub results_of : Option ResultTypes → Result (List Ty) Fault
+results_of r = results_from 0 (types_in r)
+
+-- ---- the return
 
 abbrev pub word_in : ReturnName → TokenShape
 word_in (Short t) = t
 word_in (Long t) = t
 
--- the value that is returned, where the type that is written is the value's
-abbrev pub returned_of : List Entry → TokenShape → TokenShape → Result ValueId Fault
-returned_of env name ty = and_then (value env name) (λ v. and_then (same_type v.1 ty) (λ _. Ok (record { 0 = v.0 })))
+-- the numbers of the values that are returned
+abbrev pub value_ids : List Entry → ReturnedValues → Result (List ValueId) Fault
+value_ids env r = and_then (value_id env r.first) (λ v. and_then (each (λ n. value_id env n.name) r.more) (λ vs. Ok (v ∷ vs)))
+
+-- the types behind the first, one for each value; `close` ends them
+abbrev pub more_return_types : TokenShape → List Entry → List NextValue → List ReturnType → Result (Unit {0}) Fault
+more_return_types close env [] [] = Ok tt
+more_return_types close env [] (t ∷ ts) = Err (Syntax t.comma.start)
+more_return_types close env (n ∷ ns) [] = Err (Syntax close.start)
+more_return_types close env (n ∷ ns) (t ∷ ts) = and_then (typed_as env n.name t.ty) (λ _. more_return_types close env ns ts)
+
+-- the values that are returned, where the types that are written are theirs
+abbrev pub returned_of : List Entry → Returned → Result (List ValueId) Fault
+returned_of env (Nothing close) = Ok []
+returned_of env (Values r) =
+    and_then (value_ids env r) (λ vs. and_then (typed_as env r.first r.first_type) (λ _. and_then (more_return_types r.close env r.more r.more_types) (λ _. Ok vs)))
 
 -- the return is the last operation
-abbrev pub return_of : Scope → Function → Result Op Fault
-return_of s f =
-    and_then (room s.ops (word_in f.return_name)) (λ _. and_then (returned_of s.env f.returned f.return_type) (λ v.
-    Ok (record { id = record { 0 = s.ops }; results = []; kind = kinds.Return (v ∷ []) })))
+abbrev pub return_of : Scope → ReturnName → Returned → Result Op Fault
+return_of s name r =
+    and_then (room s.ops (word_in name)) (λ _. and_then (returned_of s.env r) (λ vs.
+    Ok (record { id = record { 0 = s.ops }; results = []; kind = kinds.Return vs })))
 
-abbrev pub start : Scope
-start = record { env = []; values = 0; ops = 0 }
+-- ---- functions
 
-abbrev pub function_of : Option (List ℕ) → Function → Result FuncShape Fault
-function_of alias f =
+-- a function's own scope: no names, and the next numbers
+abbrev pub opened : FileScope → Scope
+opened s = record { env = []; values = s.values; ops = s.ops }
+
+-- behind a function of this name, at whose return its own scope was this one
+abbrev pub closed : FileScope → List ℕ → Scope → FileScope
+closed s name inner = record { stage = s.stage; aliases = s.aliases; functions = s.functions ++ name ∷ []; values = inner.values; ops = suc inner.ops }
+
+abbrev pub body_of : List AliasShape → Scope → Function → Result (Scope × List Op) Fault
+body_of aliases s f =
+    and_then (statements_of aliases s f.statements) (λ b. and_then (return_of b.0 f.return_name f.returned) (λ last. Ok (b.0, b.1 ++ last ∷ [])))
+
+abbrev pub function_of : FileScope → Function → Result (FileScope × FuncShape) Fault
+function_of s f =
     and_then (name_of f.name) (λ name.
-    and_then (params_of start f.params) (λ p.
-    and_then (type_at f.result) (λ result.
-    and_then (statements_of alias p.0 f.statements) (λ b.
-    and_then (return_of b.0 f) (λ last.
-    Ok (record { name = name; params = p.1; results = result ∷ []; body = b.1 ++ last ∷ [] }))))))
+    and_then (unknown s.functions f.name.start (symbol_of f.name)) (λ _.
+    and_then (params_of (opened s) f.params) (λ p.
+    and_then (results_of f.results) (λ results.
+    and_then (body_of s.aliases p.0 f) (λ b.
+    Ok (closed s (symbol_of f.name) b.0, record { name = name; params = p.1; results = results; body = b.1 }))))))
 
-abbrev pub function_in : Item → Function
-function_in (Bare f) = f
-function_in (Inside e) = e.function
+abbrev pub functions_of : FileScope → List Function → Result (FileScope × List FuncShape) Fault
+functions_of s fs = thread function_of s fs
 
--- the alias in scope in the item: one behind it is not
-abbrev pub alias_in : Text → Option (List ℕ)
-alias_in (First a) = Some a.alias.name.text
-alias_in (Last item line) = None
+-- ---- items
 
-abbrev pub item_in : Text → Item
-item_in (First a) = a.item
-item_in (Last item line) = item
+abbrev pub alias_of : FileScope → AliasLine → Result FileScope Fault
+alias_of s a = and_then (alias_in s.aliases a) (λ x. Ok (record { stage = s.stage; aliases = s.aliases ++ x ∷ []; functions = s.functions; values = s.values; ops = s.ops }))
+
+abbrev pub is_start : Stage → Bool
+is_start Start = true
+is_start Functions = false
+is_start Closed = false
+
+abbrev pub is_closed : Stage → Bool
+is_closed Start = false
+is_closed Functions = false
+is_closed Closed = true
+
+abbrev pub at_stage : FileScope → Stage → FileScope
+at_stage s stage = record { stage = stage; aliases = s.aliases; functions = s.functions; values = s.values; ops = s.ops }
+
+-- behind a module stands no function, and behind a function or a module no module
+abbrev pub item_of : FileScope → Item → Result (FileScope × List FuncShape) Fault
+item_of s (items.Alias a) = and_then (alias_of s a) (λ t. Ok (t, []))
+item_of s (items.Function f) =
+    and_then (demand (not (is_closed s.stage)) (Syntax f.keyword.start)) (λ _. and_then (function_of (at_stage s Functions) f) (λ r. Ok (r.0, r.1 ∷ [])))
+item_of s (items.Module m) = and_then (demand (is_start s.stage) (Syntax m.keyword.start)) (λ _. functions_of (at_stage s Closed) m.functions)
+
+abbrev pub items_of : FileScope → List Item → Result (List FuncShape) Fault
+items_of s [] = Ok []
+items_of s (i ∷ is) = and_then (item_of s i) (λ r. and_then (items_of r.0 is) (λ fs. Ok (r.1 ++ fs)))
+
+abbrev pub start : FileScope
+start = record { stage = Start; aliases = []; functions = []; values = 0; ops = 0 }
 
 abbrev pub resolve : Text → Result Module Fault
-resolve t = and_then (function_of (alias_in t) (function_in (item_in t))) (λ f. Ok (record { funcs = f ∷ [] }))
+resolve t = and_then (items_of start t.items) (λ fs. Ok (record { funcs = fs }))
+
+-- the numbers of a file's values fit
+pub record IsFileSound (s : FileScope) : Type 0 where
+  pub few : s.values ≤ 65 * s.ops
+  pub ops : s.ops ≤ 65536

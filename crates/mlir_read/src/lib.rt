@@ -5,24 +5,40 @@
 //! [`ReadError`].
 //!
 //! What a text stands for is `StandsFor` in specs/Reading.antt, and what it is refused for is `reading` there. What a tree
-//! stands for is `resolve` in specs/Resolve.antt, over payloads (specs/Payload.antt), names in scope (specs/Scope.antt,
+//! stands for is `resolve` in specs/Resolve.antt, over operations (specs/Operations.antt), payloads (specs/Payload.antt), maps (specs/Maps.antt), names in scope (specs/Scope.antt,
 //! specs/Names.antt) and types (specs/Types.antt).
 #![tactic(auto)]
 
-mod aliases;
-mod fault;
+#[cfg(test)]
+mod constant_tests;
+mod constants;
+mod dense;
+mod files;
 mod functions;
+mod generics;
+mod literals;
+#[cfg(test)]
+mod map_tests;
+mod maps;
+mod name_list;
 mod names;
 mod operations;
+#[cfg(test)]
+mod payload_tests;
 mod payloads;
 mod read;
+mod steps;
+mod structured;
 #[cfg(test)]
 mod tests;
 mod typing;
 mod values;
+mod words;
 
-pub use fault::{Fault, Refused};
-pub use functions::read_module;
-pub use mlir_lex::ReadError;
-pub use names::{Meaning, Names, Scope};
+pub use files::{FileScope, Stage, read_module};
+pub use maps::{Alias, Aliases};
+pub use mlir_lex::{Fault, ReadError, Refused};
+pub use name_list::NameList;
+pub use names::{Inside, Meaning, Names, Scope};
 pub use read::{File, read_file};
+pub use words::{Cast, binary_text, cast_text, predicate_text};

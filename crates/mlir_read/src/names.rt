@@ -6,7 +6,7 @@ ghost use Rattle.mlir_read.specs.Names.{find, entry, IsFront};
 ghost use Rattle.mlir_read.specs.declared.names.Meaning.{Meaning as Meant};
 
 use mlir_ir::Ty;
-use payload_ops::{Arg, ElemTy, Memory};
+use payload_ops::{Arg, ElemTy, List, Memory, PayloadStep};
 use std::alloc::Global;
 use std::collections::HashMap;
 use std::marker::Model;
@@ -14,7 +14,11 @@ use std::marker::Model;
 /// What a name in scope stands for.
 #[derive(Drop)]
 pub enum Meaning {
+    /// A value of the function, with its number and its type.
     Held(u32, Ty),
+    /// A scalar constant of the function, with its number, its type and its value.
+    Constant(u32, ElemTy, u64),
+    /// An argument or a step of a payload, with its type.
     Local(Arg, ElemTy),
 }
 
@@ -138,4 +142,11 @@ pub struct Scope<'a> {
     pub env: Names<'a>,
     pub values: u32,
     pub ops: u32,
+}
+
+/// The inside of a payload: the names of its arguments and steps, and the steps so far.
+#[derive(Drop)]
+pub struct Inside<'a> {
+    pub names: Names<'a>,
+    pub steps: List<PayloadStep>,
 }

@@ -1,19 +1,16 @@
 //! Payloads of generic operations.
 
-ghost use Rattle.std.specs.Prelude.{◌≡◌, ◌≤◌, length, IfOk, OnOk};
-ghost use Rattle.payload_ops.specs.declared.step.StepOp.TheVariants.{Binary};
-ghost use Rattle.payload_ops.specs.declared.kinds.BinOp.TheVariants.{Addi};
-ghost use Rattle.mlir_read.specs.Chain.{Agree, Leaves, Becomes};
+ghost use Rattle.std.specs.Prelude.{◌≡◌, ◌≤◌, length, IfOk};
+ghost use Rattle.mlir_lex.specs.Chain.{Agree, Leaves, Becomes};
 ghost use Rattle.mlir_read.specs.Scope.{IsOuter};
-ghost use Rattle.mlir_read.specs.Payload.{locals_of, arg_of, more_args, block_args, step_of, steps_of, yield_of, parts_of, payload_of};
+ghost use Rattle.mlir_read.specs.Payload.{locals_of, arg_of, more_args, block_args, yield_of, parts_of, payload_of};
 
-use crate::fault::{Fault, Refused};
-use crate::names::{Meaning, Names};
+use crate::names::{Inside, Meaning, Names};
+use crate::steps::{argument, fresh_in, read_steps};
 use crate::typing::same_elem;
-use crate::values::{fresh, local};
-use mlir_ir::Which;
-use mlir_syntax::{BlockArgs, NextArg, Region, Step};
-use payload_ops::{Arg, BinOp, ElemTy, List, Memory, Payload, PayloadStep, StepOp, payload};
+use mlir_lex::{Fault, Refused};
+use mlir_syntax::{BlockArgs, NextArg, Region};
+use payload_ops::{Arg, ElemTy, List, Memory, Payload, PayloadStep, payload};
 use std::alloc::Global;
 use text_format::Token;
 
@@ -34,14 +31,15 @@ fn locals(alloc: Global, ins: &[ElemTy], out: &ElemTy) -> Result<List<(Arg, Elem
 
 /// An argument of the block is defined.
 fn read_arg<'a>(
+    outer: &Names<'a>,
     names: &mut Names<'a>,
     stands: &(Arg, ElemTy),
     name: &Token<'a>,
     ty: &Token<'a>,
 ) -> Result<(), Refused>
-    ensures { Becomes names.new result (arg_of names.old stands.now name.now ty.now) }
+    ensures { Becomes names.new result (arg_of outer.now names.old stands.now name.now ty.now) }
 {
-    fresh(names, name)?;
+    fresh_in(outer, names, name)?;
     same_elem(&stands.1, ty)?;
     names.define(name.text(), Meaning::Local(stands.0, stands.1))?;
     Ok(())
@@ -49,19 +47,20 @@ fn read_arg<'a>(
 
 /// The arguments behind the first.
 fn read_more_args<'a>(
+    outer: &Names<'a>,
     names: &mut Names<'a>,
     close: &Token<'a>,
     locals: &[(Arg, ElemTy)],
     args: &[NextArg<'a>],
 ) -> Result<(), Refused>
-    ensures { Becomes names.new result (more_args close.now names.old locals.now args.now) }
+    ensures { Becomes names.new result (more_args close.now outer.now names.old locals.now args.now) }
 {
     let mut wanted = locals;
     let mut rest = args;
     while let [stands, more @ ..] = wanted {
         match rest {
             [arg, others @ ..] => {
-                read_arg(names, stands, &arg.name, &arg.ty)?;
+                read_arg(outer, names, stands, &arg.name, &arg.ty)?;
                 wanted = more;
                 rest = others;
             }
@@ -76,72 +75,33 @@ fn read_more_args<'a>(
 
 /// The arguments of the block are defined.
 fn read_args<'a>(
+    outer: &Names<'a>,
     names: &mut Names<'a>,
     locals: &[(Arg, ElemTy)],
     args: &BlockArgs<'a>,
 ) -> Result<(), Refused>
-    ensures { Becomes names.new result (block_args names.old locals.now args.now) }
+    ensures { Becomes names.new result (block_args outer.now names.old locals.now args.now) }
 {
     match locals {
         [] => Ok(()),
         [stands, more @ ..] => {
-            read_arg(names, stands, &args.first.name, &args.first.ty)?;
-            read_more_args(names, &args.close, more, args.more.as_slice())
+            read_arg(outer, names, stands, &args.first.name, &args.first.ty)?;
+            read_more_args(outer, names, &args.close, more, args.more.as_slice())
         }
     }
 }
 
-fn addition(ty: &ElemTy, left: Arg, right: Arg) -> PayloadStep
-    ensures { result ≡ record { ty = ty.now; op = Binary Addi left right } }
+/// What the payload yields, behind its steps.
+fn read_yield<'a>(
+    outer: &Names<'a>,
+    out: &ElemTy,
+    inside: &mut Inside<'a>,
+    region: &Region<'a>,
+) -> Result<Arg, Refused>
+    requires few { length inside.old.steps ≤ 1024 }
+    ensures { Leaves inside.new.steps result (yield_of outer.now out.now inside.old region.now) }
 {
-    PayloadStep {
-        ty: *ty,
-        op: StepOp::Binary(BinOp::Addi, left, right),
-    }
-}
-
-/// A step of a payload.
-fn read_step(names: &Names, number: u32, step: &Step) -> Result<PayloadStep, Refused>
-    ensures { Agree result (step_of names.now number step.now) }
-{
-    fresh(names, &step.result)?;
-    if number >= 1024 {
-        return Err(Refused::At(Fault::Limit(Which::PayloadSteps, step.name.start())));
-    }
-    let (left, elem) = local(names, &step.left)?;
-    let (right, other) = local(names, &step.right)?;
-    same_elem(&elem, &step.ty)?;
-    same_elem(&other, &step.ty)?;
-    Ok(addition(&elem, left, right))
-}
-
-/// The steps of a payload, each of which is defined behind it.
-fn read_steps<'a>(
-    alloc: Global,
-    names: &mut Names<'a>,
-    steps: &[Step<'a>],
-) -> Result<List<PayloadStep>, Refused>
-    ensures { Leaves names.new result (steps_of names.old 0 steps.now) }
-{
-    let mut found = List::new(alloc);
-    let mut number = 0u32;
-    for step in steps {
-        let one = read_step(names, number, step)?;
-        names.define(
-            step.result.text(),
-            Meaning::Local(Arg::Step(number), one.ty),
-        )?;
-        found.push(one)?;
-        number += 1;
-    }
-    Ok(found)
-}
-
-/// What the payload yields.
-fn read_yield(names: &Names, out: &ElemTy, region: &Region) -> Result<Arg, Refused>
-    ensures { Agree result (yield_of names.now out.now region.now) }
-{
-    let (yielded, elem) = local(names, &region.yielded)?;
+    let (yielded, elem) = argument(outer, inside, 0, &region.yielded)?;
     same_elem(&elem, &region.yield_type)?;
     same_elem(out, &region.yield_type)?;
     Ok(yielded)
@@ -150,38 +110,38 @@ fn read_yield(names: &Names, out: &ElemTy, region: &Region) -> Result<Arg, Refus
 /// The parts of a payload. Its names are in scope inside it alone.
 fn read_parts<'a>(
     alloc: Global,
-    names: &mut Names<'a>,
+    outer: &Names<'a>,
     ins: &[ElemTy],
     out: &ElemTy,
     region: &Region<'a>,
 ) -> Result<(List<PayloadStep>, Arg), Refused>
     requires few { length ins.now ≤ 64 }
-    ensures value { Agree result (parts_of names.old ins.now out.now region.now) }
-    ensures kept { OnOk result (names.new ≡ names.old) }
+    ensures { Agree result (parts_of outer.now ins.now out.now region.now) }
 {
-    let before = names.len();
     let wanted = locals(alloc, ins, out)?;
-    read_args(names, wanted.as_slice(), &region.args)?;
-    let steps = read_steps(alloc, names, region.steps.as_slice())?;
-    let yielded = read_yield(names, out, region)?;
-    names.leave(before);
-    Ok((steps, yielded))
+    let mut inside = Inside {
+        names: Names::new(alloc),
+        steps: List::new(alloc),
+    };
+    read_args(outer, &mut inside.names, wanted.as_slice(), &region.args)?;
+    read_steps(outer, &mut inside, region.steps.as_slice())?;
+    let yielded = read_yield(outer, out, &mut inside, region)?;
+    Ok((inside.steps, yielded))
 }
 
 /// A payload over inputs and an output of these element types.
 pub fn read_payload<'a>(
     alloc: Global,
-    names: &mut Names<'a>,
+    outer: &Names<'a>,
     ins: List<ElemTy>,
     out: &ElemTy,
     region: &Region<'a>,
 ) -> Result<Payload, Refused>
     requires few { length ins ≤ 64 }
-    requires outer { IsOuter names.old }
-    ensures value { Agree result (payload_of names.old ins out.now region.now) }
-    ensures kept { OnOk result (names.new ≡ names.old) }
+    requires outer { IsOuter outer.now }
+    ensures { Agree result (payload_of outer.now ins out.now region.now) }
 {
-    let (steps, yielded) = read_parts(alloc, names, ins.as_slice(), out, region)?;
+    let (steps, yielded) = read_parts(alloc, outer, ins.as_slice(), out, region)?;
     match payload(ins, *out, steps, yielded) {
         Some(payload) => Ok(payload),
         None => unreachable!(),

@@ -4,16 +4,16 @@ ghost use Rattle.std.specs.Prelude.{◌≡◌, ◌≤◌, All, IfOk, length};
 ghost use Rattle.mlir_ir.specs.declared.tree.Module.{Module as Read};
 ghost use Rattle.text_format.specs.Tokens.{IsSpan};
 ghost use Rattle.text_format.specs.Parsing.{stop_of};
-ghost use Rattle.mlir_read.specs.Resolve.{item_in, resolve};
-ghost use Rattle.mlir_read.specs.Reading.{behind, place_of, fault_error, stop_by, first_of, of_tokens, reading, Reads, Answers, StandsFor, Gives, Tells};
+ghost use Rattle.mlir_lex.specs.Faults.{first_of, Reads};
+ghost use Rattle.mlir_read.specs.Resolve.{resolve};
+ghost use Rattle.mlir_read.specs.Reading.{behind, of_tokens, reading, Answers, StandsFor, Gives, Tells, has_module};
 
-use crate::fault::{Fault, Refused};
-use crate::functions::read_module;
+use crate::files::read_module;
 use mlir_ir::Module;
-use mlir_lex::{LexError, ReadError, Token, tokens};
+use mlir_lex::{LexError, ReadError, Refused, Token, stop_error, tokens};
 use mlir_syntax::{Item, Text, read_tree};
 use std::alloc::Global;
-use text_format::{Class, Lexeme, Parser, Position, Reason, Stopped};
+use text_format::{Class, Parser, Stopped};
 
 /// What a text holds.
 #[derive(Drop)]
@@ -21,54 +21,25 @@ pub struct File {
     pub module: Module,
 }
 
-/// What may stand behind the item.
+fn has_module(items: &[Item]) -> bool
+    ensures { result ≡ has_module items.now }
+{
+    for item in items {
+        if let Item::Module(_) = item {
+            return true;
+        }
+    }
+    false
+}
+
+/// What may stand behind a text's items.
 fn behind(text: &Text) -> Class
-    ensures { result ≡ behind (item_in text.now) }
+    ensures { result ≡ behind text.now }
 {
-    let item = match text {
-        Text::First(first) => &first.item,
-        Text::Last(item, _) => item,
-    };
-    match item {
-        Item::Bare(_) => Class::Name(Position::Item, Lexeme::FuncFunc),
-        Item::Inside(_) => Class::Alias,
-    }
-}
-
-fn place_of(fault: Fault) -> u32
-    ensures { result ≡ place_of fault }
-{
-    match fault {
-        Fault::Syntax(at) => at,
-        Fault::Unsupported(at) => at,
-        Fault::UnknownName(at) => at,
-        Fault::Twice(at) => at,
-        Fault::TypeDiffers(at) => at,
-        Fault::Number(at) => at,
-        Fault::Limit(_, at) => at,
-    }
-}
-
-fn fault_error(fault: Fault) -> ReadError
-    ensures { result ≡ fault_error fault }
-{
-    match fault {
-        Fault::Syntax(at) => ReadError::Syntax(at),
-        Fault::Unsupported(at) => ReadError::Unsupported(at),
-        Fault::UnknownName(at) => ReadError::UnknownName(at),
-        Fault::Twice(at) => ReadError::Twice(at),
-        Fault::TypeDiffers(at) => ReadError::TypeDiffers(at),
-        Fault::Number(at) => ReadError::Number(at),
-        Fault::Limit(which, _) => ReadError::Limit { which },
-    }
-}
-
-fn stop_error(stopped: Stopped) -> ReadError
-    ensures { result ≡ stop_by stopped.at stopped.why }
-{
-    match stopped.why {
-        Reason::Syntax => ReadError::Syntax(stopped.at),
-        Reason::Unsupported => ReadError::Unsupported(stopped.at),
+    if has_module(text.items.as_slice()) {
+        Class::Alias
+    } else {
+        Class::ItemStart
     }
 }
 
@@ -83,10 +54,10 @@ fn read_stopped(alloc: Global, tree: &Text, stop: Option<Stopped>) -> Result<Mod
         },
         Err(Refused::Memory) => Err(ReadError::Memory),
         Err(Refused::At(fault)) => match stop {
-            None => Err(fault_error(fault)),
+            None => Err(fault.error()),
             Some(stopped) => {
-                if place_of(fault) < stopped.at {
-                    Err(fault_error(fault))
+                if fault.reach() < stopped.at {
+                    Err(fault.error())
                 } else {
                     Err(stop_error(stopped))
                 }

@@ -73,7 +73,9 @@ fn ends_at_each_front_of_the_addition(rt: HostRuntime) -> Result<(), Fail> {
     for n in 0..text.len() {
         let (front, _) = text.split_at(n);
         let read = read_file(rt.alloc(), front).is_ok();
-        assert_eq!(rt; read, n + 1 == text.len(), "at {n}");
+        // Nothing, the alias alone, and all but the last line feed are texts.
+        let whole = n == 0 || n == 30 || n == 31 || n + 1 == text.len();
+        assert_eq!(rt; read, whole, "at {n}");
     }
     Ok(())
 }
@@ -81,6 +83,13 @@ fn ends_at_each_front_of_the_addition(rt: HostRuntime) -> Result<(), Fail> {
 #[test]
 fn reads_other_texts(rt: HostRuntime) -> Result<(), Fail> {
     for text in [
+        "",
+        "module { } #m = affine_map<(d0) -> (d0)>",
+        "#m = affine_map<(d0) -> (d0)> #n = affine_map<(d0) -> (d0)>",
+        "func.func @f() { return } #m = affine_map<(d0) -> (d0)> func.func @g(%a: tensor<i1>, %b: tensor<1x2x3x4x5x6x7x8xi64>) -> (tensor<i1>, tensor<i1>) { func.return %a, %a : tensor<i1>, tensor<i1> }",
+        "#m = affine_map<(d0) -> (d0)> module { func.func @f(%a: tensor<0x1048576x1048576xi8>) { return } func.func @g() { return } } #n = affine_map<(d0) -> (d0)>",
+        "func.func @f() -> (tensor<2xi8>, tensor<2xi8>, tensor<2xi8>, tensor<2xi8>, tensor<2xi8>, tensor<2xi8>, tensor<2xi8>, tensor<2xi8>, tensor<2xi8>, tensor<2xi8>, tensor<2xi8>, tensor<2xi8>, tensor<2xi8>, tensor<2xi8>, tensor<2xi8>, tensor<2xi8>) { return }",
+        "func.func @f(%a: tensor<2048x2048xi8>) { return }",
         "module { func.func @f(%a: tensor<2xi8>) -> tensor<2xi8> {  return %a : tensor<2xi8> } } #m = affine_map<(d0) -> (d0)>",
         "func.func @f(%a: tensor<2xi8>) -> tensor<2xi8> {  func.return %a : tensor<2xi8> }",
         "#m = affine_map<(d0) -> (d0)> func.func @f(%a: tensor<2xi8>) -> tensor<2xi8> { %r = linalg.generic {indexing_maps = [#m, #m], iterator_types = [\"parallel\"]} ins(%a : tensor<2xi8>) outs(%a : tensor<2xi8>) { ^bb0(%x: i8, %y: i8): %s = arith.addi %x, %y : i8 linalg.yield %s : i8 } -> tensor<2xi8> %r2 = linalg.generic {indexing_maps = [#m, #m], iterator_types = [\"parallel\"]} ins(%a : tensor<2xi8>) outs(%a : tensor<2xi8>) { ^bb0(%x: i8, %y: i8): %s = arith.addi %x, %y : i8 linalg.yield %s : i8 } -> tensor<2xi8> return %a : tensor<2xi8> }",
@@ -95,6 +104,30 @@ fn reads_other_texts(rt: HostRuntime) -> Result<(), Fail> {
 #[test]
 fn refuses_past_limits(rt: HostRuntime) -> Result<(), Fail> {
     for (text, which) in [
+        (
+            "func.func @f() -> (tensor<2xi8>, tensor<2xi8>, tensor<2xi8>, tensor<2xi8>, tensor<2xi8>, tensor<2xi8>, tensor<2xi8>, tensor<2xi8>, tensor<2xi8>, tensor<2xi8>, tensor<2xi8>, tensor<2xi8>, tensor<2xi8>, tensor<2xi8>, tensor<2xi8>, tensor<2xi8>, tensor<2xi8>) { return }",
+            Which::Results,
+        ),
+        (
+            "func.func @f(%a: tensor<1x1x1x1x1x1x1x1x1xi8>) { return }",
+            Which::Rank,
+        ),
+        (
+            "func.func @f(%a: tensor<1x1x1x1x1x1x1x1x1048577xi8>) { return }",
+            Which::Rank,
+        ),
+        (
+            "func.func @f(%a: tensor<2048x2049xi8>) { return }",
+            Which::Elements,
+        ),
+        (
+            "func.func @f(%a: tensor<1048576x1048576x1048576x1048576xi8>) { return }",
+            Which::Elements,
+        ),
+        (
+            "func.func @f(%a: tensor<1048577x0xi8>) { return }",
+            Which::Extent,
+        ),
         (
             "#m = affine_map<(d0) -> (d0)> func.func @f(%a: tensor<1048577xi8>) -> tensor<2xi8> {  return %a : tensor<2xi8> }",
             Which::Extent,
@@ -132,14 +165,9 @@ fn refuses_bytes_files_and_types(rt: HostRuntime) -> Result<(), Fail> {
             "#m = affine_map<(d0) -> (d0)> func.func @f(%a: tensor<2xi8\n) -> tensor<2xi8> {  return %a : tensor<2xi8> }",
             ReadError::Unclosed(47),
         ),
-        ("", ReadError::Syntax(0)),
         ("}", ReadError::Syntax(0)),
         ("fun @f", ReadError::Unsupported(0)),
         ("return", ReadError::Syntax(0)),
-        (
-            "#m = affine_map<(d0) -> (d0)> #n = affine_map<(d0) -> (d0)>",
-            ReadError::Syntax(30),
-        ),
         ("#m = affine_map<(d0) -> (d1)>", ReadError::Syntax(25)),
         ("module { module", ReadError::Syntax(9)),
         ("module { modul", ReadError::Unsupported(9)),
@@ -154,7 +182,7 @@ fn refuses_bytes_files_and_types(rt: HostRuntime) -> Result<(), Fail> {
         ),
         (
             "#m = affine_map<(d0) -> (d0)> func.func @f(%a: tensor<2xi8>) -> tensor<2xi8> {  return %a : tensor<2xi8> } func.func",
-            ReadError::Syntax(107),
+            ReadError::Syntax(116),
         ),
         (
             "#m = affine_map<(d0) -> (d0)> func.func @f(%a: tensor<2xi8>) -> tensor<2xi8> {  return %a : tensor<2xi8> } more",
@@ -162,7 +190,7 @@ fn refuses_bytes_files_and_types(rt: HostRuntime) -> Result<(), Fail> {
         ),
         (
             "func.func @f(%a: tensor<2xi8>) -> tensor<2xi8> {  return %a : tensor<2xi8> } #m = affine_map<(d0) -> (d0)> #n",
-            ReadError::Syntax(107),
+            ReadError::Syntax(109),
         ),
         ("func.func f", ReadError::Syntax(10)),
         (
@@ -171,7 +199,7 @@ fn refuses_bytes_files_and_types(rt: HostRuntime) -> Result<(), Fail> {
         ),
         (
             "#m = affine_map<(d0) -> (d0)> func.func @f(%a: tensor<2x2xi8>) -> tensor<2xi8> {  return %a : tensor<2xi8> }",
-            ReadError::Syntax(47),
+            ReadError::TypeDiffers(94),
         ),
         (
             "#m = affine_map<(d0) -> (d0)> func.func @f(%a: tensor<?xi8>) -> tensor<2xi8> {  return %a : tensor<2xi8> }",
@@ -196,6 +224,77 @@ fn refuses_bytes_files_and_types(rt: HostRuntime) -> Result<(), Fail> {
         (
             "#m = affine_map<(d0) -> (d0)> func.func @f(%a: tensor<2xi8>, %a: tensor<2xi8>) -> tensor<2xi8> {  return %a : tensor<2xi8> }",
             ReadError::Twice(61),
+        ),
+    ] {
+        assert_eq!(rt; refusal(rt.alloc(), text), Some(error), "at {text}");
+    }
+    Ok(())
+}
+
+#[test]
+fn refuses_files_and_returns(rt: HostRuntime) -> Result<(), Fail> {
+    for (text, error) in [
+        (
+            "#m = affine_map<(d0) -> (d0)> #m = affine_map<(d0) -> (d0)>",
+            ReadError::Twice(30),
+        ),
+        (
+            "#m = affine_map<(d0) -> (d0)> func.func @f() { return } #m = affine_map<(d0) -> (d0)>",
+            ReadError::Twice(56),
+        ),
+        (
+            "#n = affine_map<(d0) -> (d0)> module { } #n = affine_map<(d0) -> (d0)>",
+            ReadError::Twice(41),
+        ),
+        (
+            "func.func @f() { return } func.func @f() { return } ",
+            ReadError::Twice(36),
+        ),
+        (
+            "module { func.func @f() { return } func.func @f() { return } }",
+            ReadError::Twice(45),
+        ),
+        (
+            "module { } func.func @f() { return } ",
+            ReadError::Syntax(11),
+        ),
+        (
+            "func.func @f() { return } module { }",
+            ReadError::Syntax(26),
+        ),
+        ("module { } module { }", ReadError::Syntax(11)),
+        (
+            "module { #m = affine_map<(d0) -> (d0)> }",
+            ReadError::Syntax(9),
+        ),
+        (
+            "func.func @f() -> (tensor<2xi8>) { return }",
+            ReadError::Syntax(31),
+        ),
+        ("func.func @f() -> () { return }", ReadError::Syntax(19)),
+        (
+            "func.func @f(%a: tensor<2xi8>) { return %a, %b : tensor<2xi8>, tensor<2xi8> }",
+            ReadError::UnknownName(44),
+        ),
+        (
+            "func.func @f(%a: tensor<2xi8>) { return %a, %a : tensor<2xi8>, tensor<2x1xi8> }",
+            ReadError::TypeDiffers(63),
+        ),
+        (
+            "func.func @f(%a: tensor<2xi8>) { return %a, %a : tensor<2xi8> }",
+            ReadError::Syntax(62),
+        ),
+        (
+            "func.func @f(%a: tensor<2xi8>) { return %a : tensor<2xi8>, tensor<2xi8> }",
+            ReadError::Syntax(57),
+        ),
+        (
+            "func.func @f(%a: tensor<2xi8>) { return %a }",
+            ReadError::Syntax(43),
+        ),
+        (
+            "func.func @f(%a: tensor<2xi8>) { return } func.func @g() { return %a : tensor<2xi8> }",
+            ReadError::UnknownName(66),
         ),
     ] {
         assert_eq!(rt; refusal(rt.alloc(), text), Some(error), "at {text}");
@@ -283,7 +382,7 @@ fn refuses_functions_and_operations(rt: HostRuntime) -> Result<(), Fail> {
             ReadError::Syntax(161),
         ),
         (
-            "#m = affine_map<(d0) -> (d0)> func.func @f(%a: tensor<2xi8>) -> tensor<2xi8> { %r = linalg.generic {indexing_maps = [#m, #m], iterator_types = [\"reduction\"]} ins(%a : tensor<2xi8>) outs(%a : tensor<2xi8>) { ^bb0(%x: i8, %y: i8): %s = arith.addi %x, %y : i8 linalg.yield %s : i8 } -> tensor<2xi8> return %a : tensor<2xi8> }",
+            "#m = affine_map<(d0) -> (d0)> func.func @f(%a: tensor<2xi8>) -> tensor<2xi8> { %r = linalg.generic {indexing_maps = [#m, #m], iterator_types = [\"window\"]} ins(%a : tensor<2xi8>) outs(%a : tensor<2xi8>) { ^bb0(%x: i8, %y: i8): %s = arith.addi %x, %y : i8 linalg.yield %s : i8 } -> tensor<2xi8> return %a : tensor<2xi8> }",
             ReadError::Syntax(144),
         ),
         (
@@ -332,10 +431,6 @@ fn refuses_payloads(rt: HostRuntime) -> Result<(), Fail> {
             ReadError::Syntax(215),
         ),
         (
-            "#m = affine_map<(d0) -> (d0)> func.func @f(%a: tensor<2xi8>) -> tensor<2xi8> { %r = linalg.generic {indexing_maps = [#m, #m], iterator_types = [\"parallel\"]} ins(%a : tensor<2xi8>) outs(%a : tensor<2xi8>) { ^bb0(%x: i8, %y: i8): %s = arith.divsi %x, %y : i8 linalg.yield %s : i8 } -> tensor<2xi8> return %a : tensor<2xi8> }",
-            ReadError::Unsupported(233),
-        ),
-        (
             "#m = affine_map<(d0) -> (d0)> func.func @f(%a: tensor<2xi8>) -> tensor<2xi8> { %r = linalg.generic {indexing_maps = [#m, #m], iterator_types = [\"parallel\"]} ins(%a : tensor<2xi8>) outs(%a : tensor<2xi8>) { ^bb0(%x: i8, %y: i8): %s = arith.addf %x, %y : i8 linalg.yield %s : i8 } -> tensor<2xi8> return %a : tensor<2xi8> }",
             ReadError::Unsupported(233),
         ),
@@ -380,11 +475,37 @@ fn refuses_payloads(rt: HostRuntime) -> Result<(), Fail> {
             ReadError::UnknownName(161),
         ),
         (
-            "#m = affine_map<(d0) -> (d0)> func.func @f(%a: tensor<2xi8>) -> tensor<2xi8> { %r = linalg.generic {indexing_maps = [#m, #m], iterator_types = [\"reduction\"]} ins(%b : tensor<2xi8>) outs(%a : tensor<2xi8>) { ^bb0(%x: i8, %y: i8): %s = arith.addi %x, %y : i8 linalg.yield %s : i8 } -> tensor<2xi8> return %a : tensor<2xi8> }",
+            "#m = affine_map<(d0) -> (d0)> func.func @f(%a: tensor<2xi8>) -> tensor<2xi8> { %r = linalg.generic {indexing_maps = [#m, #m], iterator_types = [\"window\"]} ins(%b : tensor<2xi8>) outs(%a : tensor<2xi8>) { ^bb0(%x: i8, %y: i8): %s = arith.addi %x, %y : i8 linalg.yield %s : i8 } -> tensor<2xi8> return %a : tensor<2xi8> }",
             ReadError::Syntax(144),
         ),
     ] {
         assert_eq!(rt; refusal(rt.alloc(), text), Some(error), "at {text}");
     }
+    Ok(())
+}
+
+/// Two functions, the second of so many operations.
+fn functions_of(alloc: Global, count: u32) -> Result<String, Fail> {
+    let mut text = String::new(alloc);
+    text.push_str("func.func @f() { return }\nfunc.func @g() {\n")?;
+    for i in 1..count {
+        let line = format!(in alloc; "%r{i} = tensor.empty() : tensor<1xi1>\n")?;
+        text.push_str(line.as_str())?;
+    }
+    text.push_str("return }\n")?;
+    Ok(text)
+}
+
+#[test]
+fn counts_operations_through_all_functions(rt: HostRuntime) -> Result<(), Fail> {
+    let most = functions_of(rt.alloc(), 65535)?;
+    assert_eq!(rt; refusal(rt.alloc(), most.as_str()), None);
+    let more = functions_of(rt.alloc(), 65536)?;
+    assert_eq!(rt;
+        refusal(rt.alloc(), more.as_str()),
+        Some(ReadError::Limit {
+            which: Which::Operations
+        })
+    );
     Ok(())
 }

@@ -1,25 +1,89 @@
 //! Types, as they are read.
 
-ghost use Rattle.std.specs.Prelude.{◌≡◌, IfOk};
+ghost use Rattle.std.specs.Prelude.{◌≡◌, ◌<◌, ◌≤◌, ◌*◌, ◌^◌, IfOk, Some, nat_le};
 ghost use Rattle.payload_ops.specs.Payload.{is_elem};
-ghost use Rattle.mlir_read.specs.Chain.{Agree};
-ghost use Rattle.mlir_read.specs.Types.{row_type, type_at, is_extent, is_row, is_shape, same_type, same_elem, elem_of};
+ghost use Rattle.mlir_lex.specs.Chain.{Agree, each};
+ghost use Rattle.mlir_read.specs.Types.{extent_at, counted, elements, least_elements, shape_type, type_at, is_extent, are_extents, is_shape, same_type, same_elem, elem_of};
 
-use crate::fault::{Fault, Refused};
 use mlir_ir::{Extent, Ty, Which};
-use payload_ops::{ElemTy, List, Memory, Width};
+use mlir_lex::{Fault, Refused};
+use payload_ops::{ElemTy, List, Memory};
 use std::alloc::Global;
-use text_format::{Shape, Token, element_of, shape_of};
+use text_format::{RankedShape, Token, element_of, ranked_of};
 
-/// The type of a tensor with one axis.
-fn row_type(alloc: Global, extent: u32, width: Width) -> Result<Ty, Memory>
-    ensures { IfOk result (λ t. t ≡ row_type extent width) }
+/// An extent that a text writes.
+fn extent_at(at: u32, extent: text_format::Extent) -> Result<Extent, Refused>
+    ensures { Agree result (extent_at at extent) }
 {
-    let mut extents = List::new(alloc);
-    extents.push(Extent::Fixed(extent))?;
+    match extent {
+        text_format::Extent::Fixed(n) => Ok(Extent::Fixed(n)),
+        text_format::Extent::TooLarge => Err(Refused::At(Fault::Limit(Which::Extent, at))),
+    }
+}
+
+/// The extents that a text writes.
+fn extents_at(
+    alloc: Global,
+    at: u32,
+    written: &[text_format::Extent],
+) -> Result<List<Extent>, Refused>
+    ensures { Agree result (each (extent_at at) written.now) }
+{
+    let mut found = List::new(alloc);
+    for extent in written {
+        let kept = extent_at(at, *extent)?;
+        found.push(kept)?;
+    }
+    Ok(found)
+}
+
+/// As an axis counts in the number of elements.
+pub fn counted(extent: Extent) -> u64
+    ensures exact { result ≡ counted extent }
+    ensures small { result < 2 ^ 32 }
+{
+    match extent {
+        Extent::Fixed(n) => n as u64,
+        Extent::Any => 0,
+    }
+}
+
+/// The number of elements with one more axis.
+fn with_axis(product: u64, extent: Extent) -> u64
+    requires { product ≤ 4194305 }
+    ensures exact { result ≡ least_elements (product * counted extent) }
+    ensures small { result ≤ 4194305 }
+{
+    let count = counted(extent);
+    let more = product * count;
+    if more <= 4194304 { more } else { 4194305 }
+}
+
+/// Whether a tensor of these extents has few enough elements.
+fn has_few_elements(extents: &[Extent]) -> bool
+    ensures { result ≡ nat_le (elements extents.now) 4194304 }
+{
+    let mut product = 1u64;
+    for extent in extents {
+        product = with_axis(product, *extent);
+    }
+    product <= 4194304
+}
+
+/// The type of a tensor of this shape.
+fn shape_type(alloc: Global, at: u32, shape: &RankedShape) -> Result<Ty, Refused>
+    ensures { Agree result (shape_type at (Some shape.now)) }
+{
+    if shape.extents.as_slice().len() > 8 {
+        return Err(Refused::At(Fault::Limit(Which::Rank, at)));
+    }
+    let extents = extents_at(alloc, at, shape.extents.as_slice())?;
+    if !has_few_elements(extents.as_slice()) {
+        return Err(Refused::At(Fault::Limit(Which::Elements, at)));
+    }
     Ok(Ty::Tensor {
         extents,
-        elem: width,
+        elem: shape.width,
     })
 }
 
@@ -27,22 +91,13 @@ fn row_type(alloc: Global, extent: u32, width: Width) -> Result<Ty, Memory>
 pub fn type_at(alloc: Global, token: &Token) -> Result<Ty, Refused>
     ensures { Agree result (type_at token.now) }
 {
-    match shape_of(token.text()) {
+    match ranked_of(alloc, token.text())? {
         None => Err(Refused::At(Fault::Syntax(token.start()))),
-        Some(shape) => match shape.extent {
-            text_format::Extent::Fixed(extent) => {
-                let ty = row_type(alloc, extent, shape.width)?;
-                Ok(ty)
-            }
-            text_format::Extent::TooLarge => Err(Refused::At(Fault::Limit(
-                Which::Extent,
-                token.start(),
-            ))),
-        },
+        Some(shape) => shape_type(alloc, token.start(), &shape),
     }
 }
 
-fn copy_list<T: Copy + Drop>(alloc: Global, items: &[T]) -> Result<List<T>, Memory>
+pub fn copy_list<T: Copy + Drop>(alloc: Global, items: &[T]) -> Result<List<T>, Memory>
     ensures { IfOk result (λ l. l ≡ items.now) }
 {
     let mut copy = List::new(alloc);
@@ -84,33 +139,47 @@ fn is_extent(written: text_format::Extent, extent: Extent) -> bool
     }
 }
 
-fn is_row(written: text_format::Extent, extents: &[Extent]) -> bool
-    ensures { result ≡ is_row written extents.now }
+fn are_extents(written: &[text_format::Extent], extents: &[Extent]) -> bool
+    ensures { result ≡ are_extents written.now extents.now }
 {
-    match extents {
-        [extent] => is_extent(written, *extent),
-        _ => false,
+    let mut wanted = extents;
+    let mut rest = written;
+    while let [extent, more @ ..] = rest {
+        match wanted {
+            [known, others @ ..] => {
+                if !is_extent(*extent, *known) {
+                    return false;
+                }
+                rest = more;
+                wanted = others;
+            }
+            [] => return false,
+        }
     }
+    wanted.is_empty()
 }
 
-fn is_shape(shape: &Option<Shape>, ty: &Ty) -> bool
+fn is_shape(shape: &Option<RankedShape>, ty: &Ty) -> bool
     ensures { result ≡ is_shape shape.now ty.now }
 {
     match shape {
         None => false,
         Some(shape) => match ty {
-            Ty::Tensor { extents, elem } => is_row(shape.extent, extents.as_slice())
-                && shape.width.bits() == elem.bits(),
+            Ty::Tensor { extents, elem } => {
+                are_extents(shape.extents.as_slice(), extents.as_slice())
+                    && shape.width.bits() == elem.bits()
+            }
             _ => false,
         },
     }
 }
 
 /// The type that a token writes is this one.
-pub fn same_type(ty: &Ty, token: &Token) -> Result<(), Refused>
+pub fn same_type(alloc: Global, ty: &Ty, token: &Token) -> Result<(), Refused>
     ensures { Agree result (same_type ty.now token.now) }
 {
-    if is_shape(&shape_of(token.text()), ty) {
+    let shape = ranked_of(alloc, token.text())?;
+    if is_shape(&shape, ty) {
         Ok(())
     } else {
         Err(Refused::At(Fault::TypeDiffers(token.start())))

@@ -1,16 +1,16 @@
 //! Values by their names, and parameters.
 
 ghost use Rattle.std.specs.Prelude.{◌≡◌, ◌<◌, OnOk};
-ghost use Rattle.mlir_read.specs.Chain.{Agree, Leaves};
-ghost use Rattle.mlir_read.specs.Scope.{fresh, typed_as, local, param_of, params_of, IsSound};
-ghost use Rattle.mlir_read.specs.Resolve.{operand_of};
+ghost use Rattle.mlir_lex.specs.Chain.{Agree, Leaves};
+ghost use Rattle.mlir_read.specs.Scope.{fresh, same_operand, typed_as, value_id, type_of, param_of, params_of, IsSound, IsOpening};
+ghost use Rattle.mlir_read.specs.Generics.{operand_of};
 
-use crate::fault::{Fault, Refused};
 use crate::names::{Meaning, Names, Scope};
-use crate::typing::{copy_type, elem_of, same_type, type_at};
+use crate::typing::{copy_type, elem_of, same_elem, same_type, type_at};
 use mlir_ir::{Ty, ValueId, Which};
+use mlir_lex::{Fault, Refused};
 use mlir_syntax::Param;
-use payload_ops::{Arg, ElemTy, List};
+use payload_ops::{ElemTy, List};
 use std::alloc::Global;
 use text_format::Token;
 
@@ -37,30 +37,64 @@ pub fn operand(names: &Names, number: usize, token: &Token) -> Result<(ValueId, 
                 Err(Refused::At(Fault::Limit(Which::Operands, token.start())))
             }
         }
+        Some(Meaning::Constant(value, elem, _)) => {
+            if number < 64 {
+                Ok((ValueId(*value), *elem))
+            } else {
+                Err(Refused::At(Fault::Limit(Which::Operands, token.start())))
+            }
+        }
         Some(Meaning::Local(..)) => Err(Refused::At(Fault::UnknownName(token.start()))),
         None => Err(Refused::At(Fault::UnknownName(token.start()))),
     }
 }
 
-/// The type that is written for a value is the value's.
-pub fn typed_as(names: &Names, name: &Token, ty: &Token) -> Result<(), Refused>
-    ensures { Agree result (typed_as names.now name.now ty.now) }
+/// The number of a value of the function.
+pub fn value_id(names: &Names, token: &Token) -> Result<ValueId, Refused>
+    ensures { Agree result (value_id names.now token.now) }
 {
-    match names.find(name.text()) {
-        Some(Meaning::Held(_, known)) => same_type(known, ty),
-        Some(Meaning::Local(..)) => Err(Refused::At(Fault::UnknownName(name.start()))),
-        None => Err(Refused::At(Fault::UnknownName(name.start()))),
+    match names.find(token.text()) {
+        Some(Meaning::Held(value, _)) => Ok(ValueId(*value)),
+        Some(Meaning::Constant(value, _, _)) => Ok(ValueId(*value)),
+        Some(Meaning::Local(..)) => Err(Refused::At(Fault::UnknownName(token.start()))),
+        None => Err(Refused::At(Fault::UnknownName(token.start()))),
     }
 }
 
-/// An argument or a step of the payload, by its name.
-pub fn local(names: &Names, token: &Token) -> Result<(Arg, ElemTy), Refused>
-    ensures { Agree result (local names.now token.now) }
+/// The type of a value of the function.
+pub fn type_of(alloc: Global, names: &Names, token: &Token) -> Result<Ty, Refused>
+    ensures { Agree result (type_of names.now token.now) }
 {
     match names.find(token.text()) {
-        Some(Meaning::Local(arg, elem)) => Ok((*arg, *elem)),
-        Some(Meaning::Held(..)) => Err(Refused::At(Fault::Unsupported(token.start()))),
+        Some(Meaning::Held(_, known)) => {
+            let ty = copy_type(alloc, known)?;
+            Ok(ty)
+        }
+        Some(Meaning::Constant(_, elem, _)) => Ok(Ty::Scalar(*elem)),
+        Some(Meaning::Local(..)) => Err(Refused::At(Fault::UnknownName(token.start()))),
         None => Err(Refused::At(Fault::UnknownName(token.start()))),
+    }
+}
+
+/// The type that is written is this one, of a scalar or of a tensor.
+fn same_operand(alloc: Global, ty: &Ty, token: &Token) -> Result<(), Refused>
+    ensures { Agree result (same_operand ty.now token.now) }
+{
+    match ty {
+        Ty::Scalar(elem) => same_elem(elem, token),
+        _ => same_type(alloc, ty, token),
+    }
+}
+
+/// The type that is written for a value is the value's.
+pub fn typed_as(alloc: Global, names: &Names, name: &Token, ty: &Token) -> Result<(), Refused>
+    ensures { Agree result (typed_as names.now name.now ty.now) }
+{
+    match names.find(name.text()) {
+        Some(Meaning::Held(_, known)) => same_operand(alloc, known, ty),
+        Some(Meaning::Constant(_, elem, _)) => same_elem(elem, ty),
+        Some(Meaning::Local(..)) => Err(Refused::At(Fault::UnknownName(name.start()))),
+        None => Err(Refused::At(Fault::UnknownName(name.start()))),
     }
 }
 
@@ -70,15 +104,15 @@ fn read_param<'a>(
     scope: &mut Scope<'a>,
     param: &Param<'a>,
 ) -> Result<(ValueId, Ty), Refused>
-    requires sound { IsSound scope.old }
+    requires sound { IsOpening scope.old }
     ensures value { Leaves scope.new result (param_of scope.old param.now) }
-    ensures sound { OnOk result (IsSound scope.new) }
+    ensures sound { OnOk result (IsOpening scope.new) }
 {
     fresh(&scope.env, &param.name)?;
-    let number = scope.values;
-    if number >= 64 {
+    if scope.env.len() >= 64 {
         return Err(Refused::At(Fault::Limit(Which::Parameters, param.name.start())));
     }
+    let number = scope.values;
     let ty = type_at(alloc, &param.ty)?;
     let known = copy_type(alloc, &ty)?;
     scope
@@ -94,7 +128,7 @@ pub fn read_params<'a>(
     scope: &mut Scope<'a>,
     list: &[Param<'a>],
 ) -> Result<List<(ValueId, Ty)>, Refused>
-    requires sound { IsSound scope.old }
+    requires sound { IsOpening scope.old }
     ensures value { Leaves scope.new result (params_of scope.old list.now) }
     ensures sound { OnOk result (IsSound scope.new) }
 {

@@ -1,56 +1,245 @@
--- The aliases of a module whose maps are all (d0) -> (d0): none, or one.
-use Rattle.std.proofs.Common.{◌≡◌, ◌⊎◌, inl, inr, List, [], ◌∷◌, refl, ap, ◌∙◌, codes}
-use Rattle.std.specs.List.{AllByRecursion}
+-- The aliases of a module: each map that is used has one, under a name of its own, whose line reads back.
+use Rattle.std.proofs.Common.{◌≡◌, ◌<◌, ◌≤◌, ◌^◌, ℕ, zero, suc, ◌+◌, Bool, true, false, cond, not, ◌||◌, List, [], ◌∷◌, ◌++◌, map, length, Option, Some, None, Result, Ok, Err, refl, sym, ap, subst, ◌∙◌, arith, append_assoc, codes, decimal}
+use Rattle.std.specs.Prelude.{position, unwrap_or}
+use Rattle.std.specs.List.{AllByRecursion, list_any, position_or_len}
+use Rattle.std.specs.Str.{bytes_eq}
+use Rattle.std.proofs.lemmas.List.{append-nil}
+use Rattle.std.proofs.lemmas.Bool.{lt-ltb}
+use Rattle.std.proofs.lemmas.Slice.Eq.{bytes_eq-Decides}
+use Rattle.std.proofs.lemmas.Fmt.{decimal_injective, decimal_nonempty}
 use Rattle.affine_maps.specs.Shape.{MapShape}
-use Rattle.affine_maps.specs.Map.{identity_of}
+use Rattle.affine_text.specs.Text.{text_of_map}
+use Rattle.affine_text.specs.Faults.{IsMapText, stream_of}
+use Rattle.affine_text.proofs.OneReading.{map_and_map}
+use Rattle.affine_text.proofs.ReadsBack.{reads_back}
 use Rattle.mlir_ir.specs.declared.tree.Op.{Op}
-use Rattle.mlir_print.specs.Maps.{with_map, with_maps, with_ops, maps_used, alias_of}
+use Rattle.mlir_ir.specs.Shape.{FuncShape}
+use Rattle.text_format.specs.Pieces.{bytes_of}
+use Rattle.mlir_syntax.specs.declared.tree.files.Item.{Item}
+use Rattle.mlir_syntax.specs.declared.tree.files.Item.TheVariants as items
+use Rattle.mlir_lex.specs.declared.fault.Fault.{Fault}
+use Rattle.mlir_lex.specs.Chain.{and_then}
+use Rattle.mlir_read.specs.declared.files.FileScope.{FileScope}
+use Rattle.mlir_read.specs.Maps.{AliasShape, aliased, alias_map, map_of}
+use Rattle.mlir_read.specs.Resolve.{alias_of, items_of}
+use Rattle.mlir_print.specs.Maps.{alias_line_at, alias_lines_at, alias_text, alias_number, use_at, with_map, with_maps, with_ops, with_funcs, maps_used}
+use Rattle.mlir_print.specs.Writers.{Writer, each_of, made}
+use Rattle.mlir_roundtrip.specs.Maps.{IsPrintableMap, ArePrintableMaps, is_text_of, HasAlias, HaveAliases, OpsHaveAliases, FuncsHaveAliases, row, rows, with_aliases}
+use Rattle.mlir_roundtrip.proofs.Maps.{written_found, no_symbols}
 
-abbrev pub line_map : MapShape
-line_map = identity_of 1
+-- ---- maps of one text are one
 
-abbrev pub AreLines : List MapShape → Type 0
-AreLines ms = AllByRecursion (λ m. m ≡ line_map) ms
+pub one_map : (m o : MapShape) → IsPrintableMap m → IsPrintableMap o → text_of_map m ≡ text_of_map o → m ≡ o
+one_map m o p q e =
+    let a = reads_back m [] true p.is_map p.dims in
+    let b = reads_back o [] true q.is_map q.dims in
+    (map_and_map true (stream_of (text_of_map m ++ [])) m o (length (text_of_map m)) (length (text_of_map o)) a
+    (subst (λ (t : List ℕ). IsMapText true (stream_of (t ++ [])) o (length (text_of_map o))) (sym e) b)).0
 
-abbrev pub UseLines : List Op → Type 0
-UseLines os = AllByRecursion (λ o. AreLines (maps_used o.kind)) os
+-- ---- each map that is used has an alias
 
--- no map is used
-abbrev pub UseNone : List Op → Type 0
-UseNone os = AllByRecursion (λ o. maps_used o.kind ≡ []) os
+or_true : (b : Bool) → b || true ≡ true
+or_true true = refl
+or_true false = refl
 
-kept : with_map (line_map ∷ []) line_map ≡ line_map ∷ []
-kept = refl
+any_more : (p : MapShape → Bool) (ms more : List MapShape) → list_any p ms ≡ true → list_any p (ms ++ more) ≡ true
+any_more p [] more h = absurd (cc h)
+any_more p (m ∷ ms) more h = by (p m) (any_more p ms more) h
+  where
+    by : (b : Bool) → (list_any p ms ≡ true → list_any p (ms ++ more) ≡ true) → b || list_any p ms ≡ true → b || list_any p (ms ++ more) ≡ true
+    by true f k = refl
+    by false f k = f k
 
-first : with_map [] line_map ≡ line_map ∷ []
-first = refl
+any_last : (p : MapShape → Bool) (ms : List MapShape) (m : MapShape) → p m ≡ true → list_any p (ms ++ m ∷ []) ≡ true
+any_last p [] m h = rw h refl
+any_last p (x ∷ ms) m h = rw (any_last p ms m h) (or_true (p x))
 
-kept_all : (us : List MapShape) → AreLines us → with_maps (line_map ∷ []) us ≡ line_map ∷ []
-kept_all [] a = refl
-kept_all (u ∷ us) a = ap (λ m. with_maps (with_map (line_map ∷ []) m) us) a.0 ∙ ap (λ ms. with_maps ms us) kept ∙ kept_all us a.1
+kept_if : (b : Bool) (p : MapShape → Bool) (ms : List MapShape) (u : MapShape) → list_any p ms ≡ true → list_any p (cond b ms (ms ++ u ∷ [])) ≡ true
+kept_if true p ms u h = h
+kept_if false p ms u h = any_more p ms (u ∷ []) h
 
-first_all : (u : MapShape) (us : List MapShape) → AreLines (u ∷ us) → with_maps [] (u ∷ us) ≡ line_map ∷ []
-first_all u us a = ap (λ m. with_maps (with_map [] m) us) a.0 ∙ kept_all us a.1
+new_if : (b : Bool) (ms : List MapShape) (u : MapShape) → list_any (is_text_of u) ms ≡ b → list_any (is_text_of u) (cond b ms (ms ++ u ∷ [])) ≡ true
+new_if true ms u h = h
+new_if false ms u h = any_last (is_text_of u) ms u ((bytes_eq-Decides (text_of_map u) (text_of_map u)).1 refl)
 
-kept_ops : (os : List Op) → UseLines os → with_ops (line_map ∷ []) os ≡ line_map ∷ []
-kept_ops [] a = refl
-kept_ops (o ∷ os) a = ap (λ ms. with_ops ms os) (kept_all (maps_used o.kind) a.0) ∙ kept_ops os a.1
+map_keeps : (ms : List MapShape) (u m : MapShape) → HasAlias ms m → HasAlias (with_map ms u) m
+map_keeps ms u m h = kept_if (list_any (is_text_of u) ms) (is_text_of m) ms u h
 
-abbrev Either : List Op → Type 0
-Either os = ((with_ops [] os ≡ []) × UseNone os) ⊎ (with_ops [] os ≡ line_map ∷ [])
+maps_keep : (ms us : List MapShape) (m : MapShape) → HasAlias ms m → HasAlias (with_maps ms us) m
+maps_keep ms [] m h = h
+maps_keep ms (u ∷ us) m h = maps_keep (with_map ms u) us m (map_keeps ms u m h)
 
-none_used : (o : Op) (os : List Op) → maps_used o.kind ≡ [] → Either os → Either (o ∷ os)
-none_used o os e (inl p) = inl (ap (λ us. with_ops (with_maps [] us) os) e ∙ p.0, (e, p.1))
-none_used o os e (inr p) = inr (ap (λ us. with_ops (with_maps [] us) os) e ∙ p)
+ops_keep : (ms : List MapShape) (os : List Op) (m : MapShape) → HasAlias ms m → HasAlias (with_ops ms os) m
+ops_keep ms [] m h = h
+ops_keep ms (o ∷ os) m h = ops_keep (with_maps ms (maps_used o.kind)) os m (maps_keep ms (maps_used o.kind) m h)
 
-some_used : (o : Op) (os : List Op) (us : List MapShape) → maps_used o.kind ≡ us → AreLines us → UseLines os → Either os → Either (o ∷ os)
-some_used o os [] e a b r = none_used o os e r
-some_used o os (u ∷ us) e a b r = inr (ap (λ us. with_ops (with_maps [] us) os) e ∙ ap (λ ms. with_ops ms os) (first_all u us a) ∙ kept_ops os b)
+funcs_keep : (ms : List MapShape) (fs : List FuncShape) (m : MapShape) → HasAlias ms m → HasAlias (with_funcs ms fs) m
+funcs_keep ms [] m h = h
+funcs_keep ms (f ∷ fs) m h = funcs_keep (with_ops ms f.body) fs m (ops_keep ms f.body m h)
 
--- the aliases behind the operations: none, where no map is used, or one
-pub aliases_in : (os : List Op) → UseLines os → Either os
-aliases_in [] a = inl (refl, tt)
-aliases_in (o ∷ os) a = some_used o os (maps_used o.kind) refl a.0 a.1 (aliases_in os a.1)
+-- what keeps each alias keeps those of a list
+all_keep : (al more : List MapShape) → ((m : MapShape) → HasAlias al m → HasAlias more m) → (us : List MapShape) → HaveAliases al us → HaveAliases more us
+all_keep al more k [] h = tt
+all_keep al more k (u ∷ us) h = (k u h.0, all_keep al more k us h.1)
 
-pub line_number : alias_of (line_map ∷ []) line_map ≡ codes "#map"
-line_number = refl
+ops_all_keep : (al more : List MapShape) → ((m : MapShape) → HasAlias al m → HasAlias more m) → (os : List Op) → OpsHaveAliases al os → OpsHaveAliases more os
+ops_all_keep al more k [] h = tt
+ops_all_keep al more k (o ∷ os) h = (all_keep al more k (maps_used o.kind) h.0, ops_all_keep al more k os h.1)
+
+maps_have : (ms us : List MapShape) → HaveAliases (with_maps ms us) us
+maps_have ms [] = tt
+maps_have ms (u ∷ us) = (maps_keep (with_map ms u) us u (new_if (list_any (is_text_of u) ms) ms u refl), maps_have (with_map ms u) us)
+
+ops_have : (ms : List MapShape) (os : List Op) → OpsHaveAliases (with_ops ms os) os
+ops_have ms [] = tt
+ops_have ms (o ∷ os) = (all_keep (with_maps ms (maps_used o.kind)) (with_ops (with_maps ms (maps_used o.kind)) os) (ops_keep (with_maps ms (maps_used o.kind)) os) (maps_used o.kind) (maps_have ms (maps_used o.kind)), ops_have (with_maps ms (maps_used o.kind)) os)
+
+-- each map that the functions use has an alias
+pub funcs_have : (ms : List MapShape) (fs : List FuncShape) → FuncsHaveAliases (with_funcs ms fs) fs
+funcs_have ms [] = tt
+funcs_have ms (f ∷ fs) = (ops_all_keep (with_ops ms f.body) (with_funcs (with_ops ms f.body) fs) (funcs_keep (with_ops ms f.body) fs) f.body (ops_have ms f.body), funcs_have (with_ops ms f.body) fs)
+
+-- ---- the maps that have aliases are those that are used
+
+module _ (P : MapShape → Type 0) where
+  abbrev pub All : List MapShape → Type 0
+  All ms = AllByRecursion P ms
+
+  abbrev pub OpsAll : List Op → Type 0
+  OpsAll os = AllByRecursion (λ o. All (maps_used o.kind)) os
+
+  abbrev pub FuncsAll : List FuncShape → Type 0
+  FuncsAll fs = AllByRecursion (λ f. OpsAll f.body) fs
+
+  all_last : (ms : List MapShape) (m : MapShape) → All ms → P m → All (ms ++ m ∷ [])
+  all_last [] m a p = (p, tt)
+  all_last (x ∷ ms) m a p = (a.0, all_last ms m a.1 p)
+
+  all_if : (b : Bool) (ms : List MapShape) (m : MapShape) → All ms → P m → All (cond b ms (ms ++ m ∷ []))
+  all_if true ms m a p = a
+  all_if false ms m a p = all_last ms m a p
+
+  maps_all : (ms us : List MapShape) → All ms → All us → All (with_maps ms us)
+  maps_all ms [] a b = a
+  maps_all ms (u ∷ us) a b = maps_all (with_map ms u) us (all_if (list_any (is_text_of u) ms) ms u a b.0) b.1
+
+  ops_all : (ms : List MapShape) (os : List Op) → All ms → OpsAll os → All (with_ops ms os)
+  ops_all ms [] a b = a
+  ops_all ms (o ∷ os) a b = ops_all (with_maps ms (maps_used o.kind)) os (maps_all ms (maps_used o.kind) a b.0) b.1
+
+  pub funcs_all : (ms : List MapShape) (fs : List FuncShape) → All ms → FuncsAll fs → All (with_funcs ms fs)
+  funcs_all ms [] a b = a
+  funcs_all ms (f ∷ fs) a b = funcs_all (with_ops ms f.body) fs (ops_all ms f.body a b.0) b.1
+
+-- ---- names of aliases differ
+
+alias_apart : (j k : ℕ) → j < 2 ^ 64 → k < 2 ^ 64 → alias_text j ≡ alias_text k → j ≡ k
+alias_apart zero zero a b e = refl
+alias_apart zero (suc k) a b e =
+    let some = decimal_nonempty (suc k) b in
+    let none : decimal (suc k) ≡ [] = cc e in
+    absurd (omega (arith, some, ap (λ (ds : List ℕ). length ds) none))
+alias_apart (suc j) zero a b e =
+    let some = decimal_nonempty (suc j) a in
+    let none : decimal (suc j) ≡ [] = cc e in
+    absurd (omega (arith, some, ap (λ (ds : List ℕ). length ds) none))
+alias_apart (suc j) (suc k) a b e = decimal_injective (suc j) (suc k) a b (cc e)
+
+other_if : (b : Bool) → (b ≡ true → ⊥) → b ≡ false
+other_if true f = absurd (f refl)
+other_if false f = refl
+
+-- an earlier alias has another name
+other_name : (j k : ℕ) → j < k → k < 2 ^ 64 → bytes_eq (alias_text j) (alias_text k) ≡ false
+other_name j k lt s = other_if (bytes_eq (alias_text j) (alias_text k)) (λ b. let same = alias_apart j k (omega arith) s ((bytes_eq-Decides (alias_text j) (alias_text k)).0 b) in absurd (omega (arith, same, lt)))
+
+-- ---- what the aliases' lines stand for
+
+-- no alias has the name of this number or of a later one
+abbrev NoneFrom : ℕ → List AliasShape → Type 0
+NoneFrom n entries = (j : ℕ) → n ≤ j → j < 2 ^ 64 → aliased entries (alias_text j) ≡ None
+
+aliased_if : (b : Bool) (a : AliasShape) (o p : Option AliasShape) → cond b (Some a) o ≡ None → (o ≡ None → p ≡ None) → cond b (Some a) p ≡ None
+aliased_if true a o p h f = absurd (cc h)
+aliased_if false a o p h f = f h
+
+aliased_last : (entries : List AliasShape) (a : AliasShape) (q : List ℕ) → aliased entries q ≡ None → bytes_eq a.name q ≡ false → aliased (entries ++ a ∷ []) q ≡ None
+aliased_last [] a q h e = rw e refl
+aliased_last (x ∷ entries) a q h e = aliased_if (bytes_eq x.name q) x (aliased entries q) (aliased (entries ++ a ∷ []) q) h (λ k. aliased_last entries a q k e)
+
+none_next : (n : ℕ) (entries : List AliasShape) (m : MapShape) → NoneFrom n entries → NoneFrom (n + 1) (entries ++ row n m ∷ [])
+none_next n entries m h = λ j le lt. aliased_last entries (row n m) (alias_text j) (h j (omega arith) lt) (other_name n j (omega arith) lt)
+
+-- the line of an alias defines it
+pub line_found : (s : FileScope) (n : ℕ) (m : MapShape) → aliased s.aliases (alias_text n) ≡ None → IsPrintableMap m → (at : ℕ) → alias_of s ((alias_line_at n m).tree at) ≡ Ok (with_aliases s (s.aliases ++ row n m ∷ []))
+line_found s n m new p at = rw (new, (λ (k : ℕ). written_found m true k p.is_map p.dims), (λ (k : ℕ). no_symbols m k)) refl
+
+none_before : (r : Result (List FuncShape) Fault) → and_then r (λ (fs : List FuncShape). Ok ([] ++ fs)) ≡ r
+none_before (Ok fs) = refl
+none_before (Err e) = refl
+
+abbrev behind_line : List Item → Result FileScope Fault → Result (List FuncShape) Fault
+behind_line more r = and_then {A = FileScope × List FuncShape} {B = List FuncShape} (and_then {A = FileScope} {B = FileScope × List FuncShape} r (λ t. Ok (t, []))) (λ q. and_then (items_of q.0 more) (λ fs. Ok (q.1 ++ fs)))
+
+-- behind the aliases' lines the aliases are those of the maps
+pub lines_found : (s : FileScope) (n : ℕ) (ms : List MapShape) (ws : List (Writer Item)) → NoneFrom n s.aliases → n + length ms < 2 ^ 64 → ArePrintableMaps ms → (at : ℕ)
+    → (k : ℕ) × (items_of s ((each_of (map (made items.Alias) (alias_lines_at n ms) ++ ws)).tree at) ≡ items_of (with_aliases s (s.aliases ++ rows n ms)) ((each_of ws).tree k))
+lines_found s n [] ws new few p at = (at, ap (λ (entries : List AliasShape). items_of (with_aliases s entries) ((each_of ws).tree at)) (sym (append-nil s.aliases)))
+lines_found s n (m ∷ ms) ws new few p at =
+    let here = at + length (bytes_of (alias_line_at n m).pieces) in
+    let later = (each_of (map (made items.Alias) (alias_lines_at (n + 1) ms) ++ ws)).tree (at + length (bytes_of (alias_line_at n m).pieces)) in
+    let next = with_aliases s (s.aliases ++ row n m ∷ []) in
+    let more = lines_found (with_aliases s (s.aliases ++ row n m ∷ [])) (n + 1) ms ws (none_next n s.aliases m new) (omega arith) p.1 (at + length (bytes_of (alias_line_at n m).pieces)) in (
+      more.0,
+      ap (behind_line later) (line_found s n m (new n (omega arith) (omega arith)) p.0 at) ∙ none_before (items_of next later) ∙ more.1
+          ∙ ap (λ (entries : List AliasShape). items_of (with_aliases s entries) ((each_of ws).tree more.0)) (append_assoc s.aliases (row n m ∷ []) (rows (n + 1) ms)),
+    )
+
+-- ---- uses
+
+-- the first map of the list whose text is this one's
+below_if : (b : Bool) (n len : ℕ) → (b ≡ false → n < len) → cond (not b) (1 + n) 0 < suc len
+below_if true n len f = omega arith
+below_if false n len f = let h = f refl in omega (arith, h)
+
+first_below : (p : MapShape → Bool) (al : List MapShape) → list_any p al ≡ true → position_or_len p al < length al
+first_below p [] h = absurd (cc h)
+first_below p (x ∷ al) h = below_if (p x) (position_or_len p al) (length al) (λ e. first_below p al (rest (p x) e h))
+  where
+    rest : (b : Bool) → b ≡ false → b || list_any p al ≡ true → list_any p al ≡ true
+    rest true e k = absurd (cc e)
+    rest false e k = k
+
+first_is : (p : MapShape → Bool) (al : List MapShape) → list_any p al ≡ true → unwrap_or (position p al) 0 ≡ position_or_len p al
+first_is p al h = rw (lt-ltb (position_or_len p al) (length al) (first_below p al h)) refl
+
+-- the alias that is found, and its map
+record Found (p : MapShape → Bool) (k : ℕ) (al : List MapShape) : Type 0 where
+  x : MapShape
+  found : aliased (rows k al) (alias_text (k + position_or_len p al)) ≡ Some (row (k + position_or_len p al) x)
+  passes : p x ≡ true
+  printable : IsPrintableMap x
+
+found_row : (p : MapShape → Bool) (k : ℕ) (al : List MapShape) → list_any p al ≡ true → ArePrintableMaps al → k + length al < 2 ^ 64 → Found p k al
+found_row p k [] h a few = absurd (cc h)
+found_row p k (x ∷ al) h a few = by (p x) refl (λ (g : list_any p al ≡ true). found_row p (k + 1) al g a.1 (omega arith)) h
+  where
+    by : (b : Bool) → p x ≡ b → (list_any p al ≡ true → Found p (k + 1) al) → b || list_any p al ≡ true → Found p k (x ∷ al)
+    by true e f g =
+        let z : k + 0 ≡ k = omega arith in
+        record { x = x; found = rw (e, z, (bytes_eq-Decides (alias_text k) (alias_text k)).1 refl) refl; passes = e; printable = a.0 }
+    by false e f g =
+        let r = f g in
+        let b = first_below p al g in
+        let z : k + (1 + position_or_len p al) ≡ k + 1 + position_or_len p al = omega arith in
+        record { x = r.x; found = rw (e, z, other_name k (k + 1 + position_or_len p al) (omega arith) (omega (arith, b, few))) r.found; passes = r.passes; printable = r.printable }
+
+-- a use of a map stands for that map
+pub use_found : (al : List MapShape) (m : MapShape) → HasAlias al m → ArePrintableMaps al → IsPrintableMap m → length al < 2 ^ 64 → (at : ℕ) → map_of (rows 0 al) ((use_at al m).tree at) ≡ Ok m
+use_found al m h a p few at =
+    let r = found_row (is_text_of m) 0 al h a (omega arith) in
+    let z : alias_number al m ≡ 0 + position_or_len (is_text_of m) al = first_is (is_text_of m) al h ∙ zero_first (position_or_len (is_text_of m) al) in
+    ap (λ (n : ℕ). alias_map at (aliased (rows 0 al) (alias_text n))) z ∙ ap (alias_map at) r.found ∙ ap (λ (x : MapShape). Ok x) (sym (one_map m r.x p r.printable ((bytes_eq-Decides (text_of_map m) (text_of_map r.x)).0 r.passes)))
+  where
+    zero_first : (n : ℕ) → n ≡ 0 + n
+    zero_first n = omega arith

@@ -1,6 +1,7 @@
--- The functions that are read are printable, and have the numbers of their canonical text.
-use Rattle.std.proofs.Common.{◌≡◌, ◌<◌, ◌≤◌, subst, ℕ, ◌+◌, suc, true, List, [], ◌∷◌, ◌++◌, length, drop, Option, Ok, refl, sym, ap, ◌∙◌, length-append, arith, nat_lt}
-use Rattle.std.specs.List.{list_all}
+-- The files that are read are printable, and have the numbers of their canonical text.
+use Rattle.std.proofs.Common.{◌≡◌, ◌<◌, ◌≤◌, subst, ℕ, ◌+◌, suc, Bool, true, not, is_none, List, [], ◌∷◌, ◌++◌, length, map, Option, Some, None, Ok, refl, sym, ap, ◌∙◌, length-append, arith, nat_lt}
+use Rattle.std.specs.Prelude.{is_none}
+use Rattle.std.specs.List.{AllByRecursion, list_all}
 use Rattle.std.proofs.lemmas.Bool.{ltb-true}
 use Rattle.mlir_ir.specs.declared.tree.Ty.{Ty}
 use Rattle.mlir_ir.specs.declared.tree.ValueId.{ValueId}
@@ -11,252 +12,480 @@ use Rattle.mlir_ir.specs.declared.tree.Which.TheVariants as limits
 use Rattle.mlir_ir.specs.Shape.{FuncShape}
 use Rattle.text_format.specs.Token.{TokenShape}
 use Rattle.text_format.specs.Types.{is_word}
-use Rattle.mlir_syntax.specs.declared.tree.Param.{Param}
-use Rattle.mlir_syntax.specs.declared.tree.Statement.{Statement}
-use Rattle.mlir_syntax.specs.declared.tree.Function.{Function}
-use Rattle.mlir_syntax.specs.declared.tree.Text.{Text}
-use Rattle.mlir_read.specs.declared.fault.Fault.TheVariants.{Limit, Syntax}
+use Rattle.text_format.specs.Formats.{spell_many}
+use Rattle.mlir_syntax.specs.Operations as operation_grammar
+use Rattle.mlir_syntax.specs.Files as file_grammar
+use Rattle.mlir_syntax.specs.declared.tree.files.Param.{Param}
+use Rattle.mlir_syntax.specs.declared.tree.operations.Statement.{Statement}
+use Rattle.mlir_syntax.specs.declared.tree.files.NextValue.{NextValue}
+use Rattle.mlir_syntax.specs.declared.tree.files.ReturnName.{ReturnName}
+use Rattle.mlir_syntax.specs.declared.tree.files.ReturnType.{ReturnType}
+use Rattle.mlir_syntax.specs.declared.tree.files.ReturnedValues.{ReturnedValues}
+use Rattle.mlir_syntax.specs.declared.tree.files.Returned.{Returned}
+use Rattle.mlir_syntax.specs.declared.tree.files.Returned.TheVariants.{Nothing, Values}
+use Rattle.mlir_syntax.specs.declared.tree.files.Function.{Function}
+use Rattle.mlir_syntax.specs.declared.tree.files.Item.{Item}
+use Rattle.mlir_syntax.specs.declared.tree.files.Item.TheVariants as items
+use Rattle.mlir_syntax.specs.declared.tree.files.Text.{Text}
+use Rattle.mlir_lex.specs.declared.fault.Fault.TheVariants.{Limit, Syntax, Twice}
+use Rattle.mlir_read.specs.declared.names.Meaning.{Meaning}
 use Rattle.mlir_read.specs.declared.names.Meaning.TheVariants.{Held}
 use Rattle.mlir_read.specs.declared.names.Scope.{Scope}
-use Rattle.mlir_read.specs.Names.{Entry, entry}
-use Rattle.mlir_read.specs.Chain.{and_then, demand, thread}
-use Rattle.mlir_read.specs.Types.{type_at, same_type}
-use Rattle.mlir_read.specs.Scope.{fresh, value, with_value, param_of, params_of}
-use Rattle.mlir_read.specs.Resolve.{operation_of, numbered, statement_of, statements_of, is_ascii, name_of, word_in, room, returned_of, return_of, start, function_of, alias_in, item_in, function_in, resolve}
+use Rattle.mlir_read.specs.declared.files.Stage.TheVariants.{Functions, Closed}
+use Rattle.mlir_read.specs.declared.files.FileScope.{FileScope}
+use Rattle.mlir_read.specs.Maps.{AliasShape, tokens_of, has_symbols, written_map, aliased as alias_named, alias_in}
+use Rattle.mlir_read.specs.Names.{Entry, entry, place}
+use Rattle.mlir_lex.specs.Chain.{and_then, demand, each, thread}
+use Rattle.mlir_read.specs.Types.{type_at}
+use Rattle.mlir_read.specs.Scope.{held, IsHeld, fresh, value_id, typed_as, with_value, param_of, params_of}
+use Rattle.mlir_read.specs.Constants.{result_meaning}
+use Rattle.mlir_read.specs.Operations.{kind_of, name_in, operation_of, numbered, statement_of, statements_of, room as op_room}
+use Rattle.mlir_read.specs.Resolve.{is_ascii, symbol_of, name_of, unknown, result_at, results_from, types_in, results_of, word_in, value_ids, more_return_types, returned_of, return_of, opened, closed, body_of, function_of, functions_of, alias_of, is_start, is_closed, at_stage, item_of, items_of, start, resolve}
 use Rattle.mlir_read.proofs.Keeps.{then_ok}
+use Rattle.affine_maps.specs.Shape.{MapShape}
+use Rattle.mlir_syntax.specs.declared.tree.files.AliasLine.{AliasLine}
+use Rattle.mlir_roundtrip.specs.Maps.{IsPrintableMap}
+use Rattle.mlir_roundtrip.proofs.MapsRead.{written_printable}
+use Rattle.mlir_roundtrip.proofs.MapUses.{AreUsable, usable_last}
+use Rattle.mlir_roundtrip.proofs.Short.{IsShortMap, IsShortStatement, IsShortFunction, IsShortItem}
+use Rattle.mlir_read.proofs.Results.{kind_fits}
 use Rattle.mlir_print.specs.declared.names.Given.{Given}
 use Rattle.mlir_print.specs.declared.names.Given.TheVariants.{Argument, Result}
 use Rattle.mlir_print.specs.Names.{Names, Row, row_of, nothing, with_argument}
-use Rattle.mlir_print.specs.Operations.{next}
-use Rattle.mlir_print.specs.Canonical.{after_params}
-use Rattle.mlir_print.specs.Renumbered.{number_in, kind_renumbered, results_renumbered, op_renumbered, ops_renumbered, func_renumbered, renumbered}
-use Rattle.mlir_roundtrip.specs.Printable.{IsRowType, IsDefined, IsPrintableKind, IsPrintableResult, IsPrintableReturn, ArePrintableOps, ArePrintableParams, IsPrintableFunc, IsPrintable}
-use Rattle.mlir_roundtrip.proofs.Values.{ok_same, demanded, type_row, Reads, reads_more, value_row, row_defined, row_number}
-use Rattle.mlir_roundtrip.proofs.Operations.{operation_is}
-
--- where a text stands, behind k operations
-record At (n : Names) (s : Scope) : Type 0 where
-  reads : Reads n.rows s.env
-  values : s.values ≡ length n.rows
+use Rattle.mlir_print.specs.Operations.{names_after, next}
+use Rattle.mlir_print.specs.Canonical.{after_params, after_ops}
+use Rattle.mlir_print.specs.Renumbered.{number_in, kind_renumbered, results_renumbered, op_renumbered, ops_renumbered, func_renumbered, values_in, funcs_renumbered, renumbered}
+use Rattle.mlir_roundtrip.specs.Printable.{IsTensorType, IsTensorValue, IsPrintableLine, IsPrintableReturn, ArePrintableOps, ArePrintableParams, ArePrintableResults, IsPrintableFunc, ArePrintable, AreNew, operations_in, IsPrintable}
+use Rattle.mlir_roundtrip.proofs.ReadTypes.{ok_same, demanded, type_row}
+use Rattle.mlir_roundtrip.proofs.Values.{Reads, meaning_held, reads_more}
+use Rattle.mlir_roundtrip.proofs.Operations.{IsRanked, ranked, value_is, tensor_is, kind_is}
+use Rattle.mlir_roundtrip.proofs.Symbols.{AreLeaves, leaves_left, leaves_right, StatementIs, FunctionIs, ItemIs}
 
 length_last : {A : Type 0} (xs : List A) (y : A) → length (xs ++ y ∷ []) ≡ suc (length xs)
 length_last xs y = length-append xs (y ∷ []) ∙ omega arith
 
--- the next value of a type, under this name
-at_more : (n m : Names) (s t : Scope) (name : List ℕ) (g : Given) (ty : Ty) → At n s → m.rows ≡ n.rows ++ row_of (record { 0 = s.values }) g ty ∷ [] → t.env ≡ s.env ++ entry name (Held s.values ty) ∷ [] → t.values ≡ suc s.values → At m t
-at_more n m s t name g ty a r e v =
-    let x = a.values in
-    let rr : m.rows ≡ n.rows ++ row_of (record { 0 = length n.rows }) g ty ∷ [] = r ∙ ap (λ k. n.rows ++ row_of (record { 0 = k }) g ty ∷ []) x in
-    let ee : t.env ≡ s.env ++ entry name (Held (length n.rows) ty) ∷ [] = e ∙ ap (λ k. s.env ++ entry name (Held k ty) ∷ []) x in
-    record {
-      reads = subst (λ (rows : List Row). Reads rows t.env) (sym rr) (subst (λ (env : List Entry). Reads (n.rows ++ row_of (record { 0 = length n.rows }) g ty ∷ []) env) (sym ee) (reads_more n.rows s.env name g ty a.reads));
-      values = v ∙ ap suc x ∙ sym (ap length rr ∙ length_last n.rows (row_of (record { 0 = length n.rows }) g ty));
-    }
+module _ (base : ℕ) where
+  -- where a text stands, behind k operations
+  record At (n : Names) (s : Scope) : Type 0 where
+    reads : Reads base n.rows s.env
+    values : s.values ≡ base + length n.rows
 
--- ---- parameters
+  -- the next value of a type, whose name stands for it
+  at_more : (n m : Names) (s t : Scope) (name : List ℕ) (g : Given) (ty : Ty) (mean : Meaning) → At n s → IsHeld mean → ((at : ℕ) → held at (Some mean) ≡ Ok (s.values, ty)) → m.rows ≡ n.rows ++ row_of (record { 0 = s.values }) g ty ∷ [] → t.env ≡ s.env ++ entry name mean ∷ [] → t.values ≡ suc s.values → At m t
+  at_more n m s t name g ty mean a h k r e v =
+      let x = a.values in
+      let rr : m.rows ≡ n.rows ++ row_of (record { 0 = base + length n.rows }) g ty ∷ [] = r ∙ ap (λ k. n.rows ++ row_of (record { 0 = k }) g ty ∷ []) x in
+      let kk : (at : ℕ) → held at (Some mean) ≡ Ok (base + length n.rows, ty) = λ at. k at ∙ ap (λ (j : ℕ). Ok (j, ty)) x in
+      let len = ap length rr ∙ length_last n.rows (row_of (record { 0 = base + length n.rows }) g ty) in
+      record {
+        reads = subst (λ (rows : List Row). Reads base rows t.env) (sym rr) (subst (λ (env : List Entry). Reads base (n.rows ++ row_of (record { 0 = base + length n.rows }) g ty ∷ []) env) (sym e) (reads_more base n.rows s.env name g ty mean a.reads h kk));
+        values = omega (arith, v, x, len);
+      }
 
-record ParamRead (n : Names) (s : Scope) (r : Scope × (ValueId × Ty)) : Type 0 where
-  at : At (with_argument n r.1.0 r.1.1) r.0
-  ty : IsRowType r.1.1
-  number : r.1.0 ≡ record { 0 = length n.rows }
-  few : length n.rows < 64
-  ops : r.0.ops ≡ s.ops
+  -- ---- parameters
 
-param_is : (n : Names) (s : Scope) (p : Param) (r : Scope × (ValueId × Ty)) → At n s → param_of s p ≡ Ok r → ParamRead n s r
-param_is n s p r a h =
-    let x = then_ok (fresh s.env p.name) _ r h in
-    let y = then_ok (demand (nat_lt s.values 64) (Limit limits.Parameters p.name.start)) _ r x.2 in
-    let z = then_ok (type_at p.ty) _ r y.2 in
-    let lt = ltb-true s.values 64 (demanded (nat_lt s.values 64) (Limit limits.Parameters p.name.start) y.0 y.1) in
-    let v = a.values in
-    subst (λ (q : Scope × (ValueId × Ty)). ParamRead n s q) (ok_same (with_value s p.name.text z.0, (record { 0 = s.values }, z.0)) r z.2)
-    (record {
-      at = at_more n (with_argument n (record { 0 = s.values }) z.0) s (with_value s p.name.text z.0) p.name.text (Argument n.args) z.0 a refl refl refl;
-      ty = type_row p.ty z.0 z.1;
-      number = ap (λ k. record { 0 = k }) a.values;
-      few = omega arith;
-      ops = refl;
-    })
+  record ParamRead (n : Names) (s : Scope) (r : Scope × (ValueId × Ty)) : Type 0 where
+    at : At (with_argument n r.1.0 r.1.1) r.0
+    ty : IsTensorType r.1.1
+    number : r.1.0 ≡ record { 0 = base + length n.rows }
+    few : length s.env < 64
+    env : length r.0.env ≡ suc (length s.env)
+    ops : r.0.ops ≡ s.ops
 
-record ParamsRead (n : Names) (s : Scope) (r : Scope × List (ValueId × Ty)) : Type 0 where
-  at : At (after_params n r.1) r.0
-  types : ArePrintableParams r.1
-  numbers : results_renumbered (length n.rows) r.1 ≡ r.1
-  few : length n.rows + length r.1 ≤ 64
-  ops : r.0.ops ≡ s.ops
+  param_is : (n : Names) (s : Scope) (p : Param) (r : Scope × (ValueId × Ty)) → At n s → param_of s p ≡ Ok r → ParamRead n s r
+  param_is n s p r a h =
+      let x = then_ok (fresh s.env p.name) _ r h in
+      let y = then_ok (demand (nat_lt (length s.env) 64) (Limit limits.Parameters p.name.start)) _ r x.2 in
+      let z = then_ok (type_at p.ty) _ r y.2 in
+      subst (λ (q : Scope × (ValueId × Ty)). ParamRead n s q) (ok_same (with_value s p.name.text z.0, (record { 0 = s.values }, z.0)) r z.2)
+      (record {
+        at = at_more n (with_argument n (record { 0 = s.values }) z.0) s (with_value s p.name.text z.0) p.name.text (Argument n.args) z.0 (Held s.values z.0) a tt (λ at. refl) refl refl refl;
+        ty = type_row p.ty z.0 z.1;
+        number = ap (λ k. record { 0 = k }) a.values;
+        few = ltb-true (length s.env) 64 (demanded (nat_lt (length s.env) 64) (Limit limits.Parameters p.name.start) y.0 y.1);
+        env = length_last s.env (entry p.name.text (Held s.values z.0));
+        ops = refl;
+      })
 
-first_param : (n : Names) (s : Scope) (r : Scope × (ValueId × Ty)) (q : Scope × List (ValueId × Ty)) → ParamRead n s r → ParamsRead (with_argument n r.1.0 r.1.1) r.0 q → ParamsRead n s (q.0, r.1 ∷ q.1)
-first_param n s r q p m =
-    let len = length_last n.rows (row_of r.1.0 (Argument n.args) r.1.1) in
-    let few = m.few in
-    record {
-      at = m.at;
-      types = (p.ty, m.types);
-      numbers = ap (λ k. (record { 0 = length n.rows }, r.1.1) ∷ results_renumbered k q.1) (sym len) ∙ ap (λ ps. (record { 0 = length n.rows }, r.1.1) ∷ ps) m.numbers ∙ ap (λ v. (v, r.1.1) ∷ q.1) (sym p.number);
-      few = omega (arith, len);
-      ops = m.ops ∙ p.ops;
-    }
+  record ParamsRead (n : Names) (s : Scope) (r : Scope × List (ValueId × Ty)) : Type 0 where
+    at : At (after_params n r.1) r.0
+    types : ArePrintableParams r.1
+    numbers : results_renumbered (base + length n.rows) r.1 ≡ r.1
+    few : length s.env + length r.1 ≤ 64
+    ops : r.0.ops ≡ s.ops
 
-params_are : (n : Names) (s : Scope) (ps : List Param) (r : Scope × List (ValueId × Ty)) → At n s → length n.rows ≤ 64 → params_of s ps ≡ Ok r → ParamsRead n s r
-params_are n s [] r a le h = subst (λ (q : Scope × List (ValueId × Ty)). ParamsRead n s q) (ok_same (s, []) r h) (record { at = a; types = tt; numbers = refl; few = omega arith; ops = refl })
-params_are n s (p ∷ ps) r a le h =
-    let x = then_ok (param_of s p) (λ r. and_then (thread param_of r.0 ps) (λ q. Ok (q.0, r.1 ∷ q.1))) r h in
-    let y = then_ok (thread param_of x.0.0 ps) (λ q. Ok (q.0, x.0.1 ∷ q.1)) r x.2 in
-    let one = param_is n s p x.0 a x.1 in
-    let len = length_last n.rows (row_of x.0.1.0 (Argument n.args) x.0.1.1) in
-    let few = one.few in
-    let more = params_are (with_argument n x.0.1.0 x.0.1.1) x.0.0 ps y.0 one.at (omega (arith, len)) y.1 in
-    subst (λ (q : Scope × List (ValueId × Ty)). ParamsRead n s q) (ok_same (y.0.0, x.0.1 ∷ y.0.1) r y.2) (first_param n s x.0 y.0 one more)
+  first_param : (n : Names) (s : Scope) (r : Scope × (ValueId × Ty)) (q : Scope × List (ValueId × Ty)) → ParamRead n s r → ParamsRead (with_argument n r.1.0 r.1.1) r.0 q → ParamsRead n s (q.0, r.1 ∷ q.1)
+  first_param n s r q p m =
+      let len = length_last n.rows (row_of r.1.0 (Argument n.args) r.1.1) in
+      let few = m.few in
+      let env = p.env in
+      let z : suc (base + length n.rows) ≡ base + length (n.rows ++ row_of r.1.0 (Argument n.args) r.1.1 ∷ []) = omega (arith, len) in
+      record {
+        at = m.at;
+        types = (p.ty, m.types);
+        numbers = ap (λ k. (record { 0 = base + length n.rows }, r.1.1) ∷ results_renumbered k q.1) z ∙ ap (λ ps. (record { 0 = base + length n.rows }, r.1.1) ∷ ps) m.numbers ∙ ap (λ v. (v, r.1.1) ∷ q.1) (sym p.number);
+        few = omega (arith, env);
+        ops = m.ops ∙ p.ops;
+      }
 
--- ---- statements
+  params_are : (n : Names) (s : Scope) (ps : List Param) (r : Scope × List (ValueId × Ty)) → At n s → length s.env ≤ 64 → params_of s ps ≡ Ok r → ParamsRead n s r
+  params_are n s [] r a le h = subst (λ (q : Scope × List (ValueId × Ty)). ParamsRead n s q) (ok_same (s, []) r h) (record { at = a; types = tt; numbers = refl; few = omega arith; ops = refl })
+  params_are n s (p ∷ ps) r a le h =
+      let x = then_ok (param_of s p) (λ r. and_then (thread param_of r.0 ps) (λ q. Ok (q.0, r.1 ∷ q.1))) r h in
+      let y = then_ok (thread param_of x.0.0 ps) (λ q. Ok (q.0, x.0.1 ∷ q.1)) r x.2 in
+      let one = param_is n s p x.0 a x.1 in
+      let few = one.few in
+      let env = one.env in
+      let more = params_are (with_argument n x.0.1.0 x.0.1.1) x.0.0 ps y.0 one.at (omega arith) y.1 in
+      subst (λ (q : Scope × List (ValueId × Ty)). ParamsRead n s q) (ok_same (y.0.0, x.0.1 ∷ y.0.1) r y.2) (first_param n s x.0 y.0 one more)
 
-record OpRead (n : Names) (s : Scope) (r : Scope × Op) : Type 0 where
-  at : At (next n r.1) r.0
-  ops : r.0.ops ≡ suc s.ops
-  result : IsPrintableResult r.1.results
-  kind : IsPrintableKind n.rows r.1.kind
-  number : op_renumbered 0 s.ops n r.1 ≡ r.1
+  -- ---- statements
 
-op_is : (alias : Option (List ℕ)) (n : Names) (s : Scope) (o : Statement) (r : Scope × Op) → At n s → statement_of alias s o ≡ Ok r → OpRead n s r
-op_is alias n s o r a h =
-    let x = then_ok (fresh s.env o.result) _ r h in
-    let y = then_ok (operation_of alias s o.operation) _ r x.2 in
-    let k = operation_is n.rows s a.reads alias o.operation y.0 y.1 in
-    let z : length n.rows + 0 ≡ s.values = omega (arith, a.values) in
-    subst (λ (q : Scope × Op). OpRead n s q) (ok_same (numbered s o.result.text y.0) r y.2)
-    (record {
-      at = at_more n (next n (numbered s o.result.text y.0).1) s (numbered s o.result.text y.0).0 o.result.text (Result n.results) y.0.0 a refl refl refl;
-      ops = refl;
-      result = k.ty;
-      kind = k.printable;
-      number = ap (λ v. record { id = record { 0 = s.ops }; results = (record { 0 = v }, y.0.0) ∷ []; kind = kind_renumbered (number_in 0 n.rows) y.0.1 }) z
-          ∙ ap (λ q. record { id = record { 0 = s.ops }; results = (record { 0 = s.values }, y.0.0) ∷ []; kind = q }) k.number;
-    })
+  record OpRead (n : Names) (s : Scope) (r : Scope × Op) : Type 0 where
+    at : At (next n r.1) r.0
+    ops : r.0.ops ≡ suc s.ops
+    line : IsPrintableLine n.rows r.1.results r.1.kind
+    number : op_renumbered base s.ops n r.1 ≡ r.1
 
--- ---- the return
+  operation_leaves : (o : Statement) → StatementIs o → AreLeaves (operation_grammar.operation.spell o.operation)
+  unfolding operation_grammar.statement
+  operation_leaves o w = w.1
 
-record ReturnRead (n : Names) (s : Scope) (o : Op) : Type 0 where
-  results : o.results ≡ []
-  kind : IsPrintableReturn n.rows o.kind
-  number : op_renumbered 0 s.ops n o ≡ o
-  few : s.ops < 65536
+  op_is : (alias : List AliasShape) (n : Names) (s : Scope) (o : Statement) (r : Scope × Op) → At n s → AreUsable alias → IsShortStatement o → StatementIs o → statement_of alias s o ≡ Ok r → OpRead n s r
+  op_is alias n s o r a usable short w h =
+      let x = then_ok (fresh s.env o.result) _ r h in
+      let y = then_ok (operation_of alias s o.operation) _ r x.2 in
+      let room = then_ok (op_room s.ops (name_in o.operation)) (λ _. kind_of alias s.env o.operation) y.0 y.1 in
+      let k = kind_is base n.rows s.env a.reads alias o.operation y.0 usable short (operation_leaves o w) room.2 in
+      let z : length n.rows + base ≡ s.values = omega (arith, a.values) in
+      subst (λ (q : Scope × Op). OpRead n s q) (ok_same (numbered s o.result.text y.0) r y.2)
+      (record {
+        at = at_more n (next n (numbered s o.result.text y.0).1) s (numbered s o.result.text y.0).0 o.result.text (Result n.results) y.0.0 (result_meaning s.values y.0.0 y.0.1) a
+            (kind_fits alias s.env s.values o.operation y.0 room.2) (meaning_held s.values y.0.0 y.0.1) refl refl refl;
+        ops = refl;
+        line = k.printable;
+        number = ap (λ v. record { id = record { 0 = s.ops }; results = (record { 0 = v }, y.0.0) ∷ []; kind = kind_renumbered (number_in base n.rows) y.0.1 }) z
+            ∙ ap (λ q. record { id = record { 0 = s.ops }; results = (record { 0 = s.values }, y.0.0) ∷ []; kind = q }) k.number;
+      })
 
-abbrev returning : ℕ → ValueId → Op
-returning k v = record { id = record { 0 = k }; results = []; kind = kinds.Return (v ∷ []) }
+  -- ---- the return
 
-record ValueRead (rows : List Row) (v : ValueId) : Type 0 where
-  is_defined : IsDefined rows v
-  number : number_in 0 rows v ≡ v
+  record ReturnRead (n : Names) (s : Scope) (o : Op) : Type 0 where
+    results : o.results ≡ []
+    kind : IsPrintableReturn n.rows o.kind
+    number : op_renumbered base s.ops n o ≡ o
+    few : s.ops < 65536
 
-returned_is : (n : Names) (s : Scope) → At n s → (name ty : TokenShape) (v : ValueId) → returned_of s.env name ty ≡ Ok v → ValueRead n.rows v
-returned_is n s a name ty v h =
-    let x = then_ok (value s.env name) _ v h in
-    let y = then_ok (same_type x.0.1 ty) _ v x.2 in
-    let row = value_row n.rows s.env a.reads name x.0 x.1 in
-    subst (λ (u : ValueId). ValueRead n.rows u) (ok_same (record { 0 = x.0.0 }) v y.2) (record { is_defined = row_defined n.rows x.0.0 x.0.1 row; number = row_number n.rows x.0.0 x.0.1 row })
+  abbrev returning : ℕ → List ValueId → Op
+  returning k vs = record { id = record { 0 = k }; results = []; kind = kinds.Return vs }
 
-return_is : (n : Names) (s : Scope) (f : Function) (o : Op) → At n s → return_of s f ≡ Ok o → ReturnRead n s o
-return_is n s f o a h =
-    let x = then_ok (room s.ops (word_in f.return_name)) _ o h in
-    let y = then_ok (returned_of s.env f.returned f.return_type) _ o x.2 in
-    let v = returned_is n s a f.returned f.return_type y.0 y.1 in
-    subst (λ (q : Op). ReturnRead n s q) (ok_same (returning s.ops y.0) o y.2)
-    (record {
-      results = refl;
-      kind = v.is_defined;
-      number = ap (λ u. returning s.ops u) v.number;
-      few = ltb-true s.ops 65536 (demanded (nat_lt s.ops 65536) (Limit limits.Operations (word_in f.return_name).start) x.0 x.1);
-    })
+  record ValuesRead (rows : List Row) (vs : List ValueId) : Type 0 where
+    are_defined : AllByRecursion (IsTensorValue rows) vs
+    numbers : map (number_in base rows) vs ≡ vs
 
--- ---- bodies
+  value_more : (rows : List Row) (env : List Entry) → Reads base rows env → (t ty : TokenShape) (v : ValueId) (vs : List ValueId) (u : Unit {0}) → IsRanked ty → value_id env t ≡ Ok v → typed_as env t ty ≡ Ok u → ValuesRead rows vs → ValuesRead rows (v ∷ vs)
+  value_more rows env r t ty v vs u c h k m =
+      let d = value_is base rows env r t v h in
+      record {
+        are_defined = (tensor_is base rows env r t ty v u c h k, m.are_defined);
+        numbers = ap (λ (w : ValueId). w ∷ map (number_in base rows) vs) d.number ∙ ap (λ (us : List ValueId). v ∷ us) m.numbers;
+      }
 
-cons_ops : (n : Names) (o : Op) (rest : List Op) → 0 < length rest → IsPrintableResult o.results → IsPrintableKind n.rows o.kind → ArePrintableOps (next n o) rest → ArePrintableOps n (o ∷ rest)
-cons_ops n o [] lt r k h = absurd (omega arith)
-cons_ops n o (p ∷ os) lt r k h = (r, k, h)
+  values_are : (close : TokenShape) (rows : List Row) (env : List Entry) → Reads base rows env → (ns : List NextValue) (ts : List ReturnType) (vs : List ValueId) (u : Unit {0}) → AllByRecursion (λ t. IsRanked t.ty) ts → each (λ n. value_id env n.name) ns ≡ Ok vs
+      → more_return_types close env ns ts ≡ Ok u → ValuesRead rows vs
+  values_are close rows env r [] ts vs u c h k = subst (λ (us : List ValueId). ValuesRead rows us) (ok_same [] vs h) (record { are_defined = tt; numbers = refl })
+  values_are close rows env r (n ∷ ns) [] vs u c h k = absurd (cc k)
+  values_are close rows env r (n ∷ ns) (t ∷ ts) vs u c h k =
+      let x = then_ok (value_id env n.name) (λ y. and_then (each (λ n. value_id env n.name) ns) (λ ys. Ok (y ∷ ys))) vs h in
+      let y = then_ok (each (λ n. value_id env n.name) ns) (λ ys. Ok (x.0 ∷ ys)) vs x.2 in
+      let z = then_ok (typed_as env n.name t.ty) (λ _. more_return_types close env ns ts) u k in
+      subst (λ (us : List ValueId). ValuesRead rows us) (ok_same (x.0 ∷ y.0) vs y.2) (value_more rows env r n.name t.ty x.0 y.0 z.0 c.0 x.1 z.1 (values_are close rows env r ns ts y.0 u c.1 y.1 z.2))
 
-record BodyRead (n : Names) (s : Scope) (os : List Op) : Type 0 where
-  ops : ArePrintableOps n os
-  numbers : ops_renumbered 0 s.ops n os ≡ os
-  few : s.ops + length os ≤ 65536
-  some : 0 < length os
+  ranked_types : (ts : List ReturnType) → AreLeaves (spell_many file_grammar.return_type ts) → AllByRecursion (λ t. IsRanked t.ty) ts
+  unfolding file_grammar.return_type
+  ranked_types [] h = tt
+  ranked_types (t ∷ ts) h = (ranked t.ty h.1.0, ranked_types ts h.1.1)
 
-first_op : (n : Names) (s t : Scope) (o : Op) (os : List Op) → OpRead n s (t, o) → BodyRead (next n o) t os → BodyRead n s (o ∷ os)
-first_op n s t o os p b =
-    let few = b.few in
-    let e = p.ops in
-    record {
-      ops = cons_ops n o os b.some p.result p.kind b.ops;
-      numbers = ap (λ k. op_renumbered 0 s.ops n o ∷ ops_renumbered 0 k (next n o) os) (sym p.ops) ∙ ap (λ xs. op_renumbered 0 s.ops n o ∷ xs) b.numbers ∙ ap (λ q. q ∷ os) p.number;
-      few = omega (arith, e, few);
-      some = omega arith;
-    }
+  returned_types : (t : ReturnedValues) → AreLeaves (file_grammar.returned.spell (Values t)) → IsRanked t.first_type × AllByRecursion (λ t. IsRanked t.ty) t.more_types
+  unfolding file_grammar.returned file_grammar.returned_values
+  returned_types t h =
+      let a = leaves_right (spell_many file_grammar.next_value t.more) _ h.1 in
+      (ranked t.first_type a.0, ranked_types t.more_types (leaves_left (spell_many file_grammar.return_type t.more_types) _ a.1))
 
-body_is : (alias : Option (List ℕ)) (n : Names) (s : Scope) (f : Function) (ss : List Statement) (r : Scope × List Op) (last : Op) → At n s → statements_of alias s ss ≡ Ok r → return_of r.0 f ≡ Ok last → BodyRead n s (r.1 ++ last ∷ [])
-body_is alias n s f [] r last a h e =
-    let same = ok_same (s, []) r h in
-    let z = return_is n s f last a (ap (λ (q : Scope × List Op). return_of q.0 f) same ∙ e) in
-    let lt = z.few in
-    subst (λ (q : Scope × List Op). BodyRead n s (q.1 ++ last ∷ [])) same
-    (record { ops = (z.results, z.kind); numbers = ap (λ (o : Op). o ∷ []) z.number; few = omega arith; some = omega arith })
-body_is alias n s f (o ∷ ss) r last a h e =
-    let x = then_ok (statement_of alias s o) (λ r. and_then (thread (statement_of alias) r.0 ss) (λ q. Ok (q.0, r.1 ∷ q.1))) r h in
-    let y = then_ok (thread (statement_of alias) x.0.0 ss) (λ q. Ok (q.0, x.0.1 ∷ q.1)) r x.2 in
-    let same = ok_same (y.0.0, x.0.1 ∷ y.0.1) r y.2 in
-    let one = op_is alias n s o x.0 a x.1 in
-    let more = body_is alias (next n x.0.1) x.0.0 f ss y.0 last one.at y.1 (ap (λ (q : Scope × List Op). return_of q.0 f) same ∙ e) in
-    subst (λ (q : Scope × List Op). BodyRead n s (q.1 ++ last ∷ [])) same (first_op n s x.0.0 x.0.1 (y.0.1 ++ last ∷ []) one more)
+  returned_are : (rows : List Row) (env : List Entry) → Reads base rows env → (t : Returned) (vs : List ValueId) → AreLeaves (file_grammar.returned.spell t) → returned_of env t ≡ Ok vs → ValuesRead rows vs
+  returned_are rows env r (Nothing close) vs w h = subst (λ (us : List ValueId). ValuesRead rows us) (ok_same [] vs h) (record { are_defined = tt; numbers = refl })
+  returned_are rows env r (Values t) vs w h =
+      let c = returned_types t w in
+      let x = then_ok (value_ids env t) _ vs h in
+      let y = then_ok (typed_as env t.first t.first_type) _ vs x.2 in
+      let z = then_ok (more_return_types t.close env t.more t.more_types) _ vs y.2 in
+      let a = then_ok (value_id env t.first) (λ v. and_then (each (λ n. value_id env n.name) t.more) (λ vs. Ok (v ∷ vs))) x.0 x.1 in
+      let b = then_ok (each (λ n. value_id env n.name) t.more) (λ vs. Ok (a.0 ∷ vs)) x.0 a.2 in
+      subst (λ (us : List ValueId). ValuesRead rows us) (ok_same x.0 vs z.2)
+      (subst (λ (us : List ValueId). ValuesRead rows us) (ok_same (a.0 ∷ b.0) x.0 b.2) (value_more rows env r t.first t.first_type a.0 b.0 y.0 c.0 a.1 y.1 (values_are t.close rows env r t.more t.more_types b.0 z.0 c.1 b.1 z.1)))
 
--- ---- functions and modules
+  return_is : (n : Names) (s : Scope) (name : ReturnName) (t : Returned) (o : Op) → At n s → AreLeaves (file_grammar.returned.spell t) → return_of s name t ≡ Ok o → ReturnRead n s o
+  return_is n s name t o a w h =
+      let x = then_ok (op_room s.ops (word_in name)) _ o h in
+      let y = then_ok (returned_of s.env t) _ o x.2 in
+      let v = returned_are n.rows s.env a.reads t y.0 w y.1 in
+      subst (λ (q : Op). ReturnRead n s q) (ok_same (returning s.ops y.0) o y.2)
+      (record {
+        results = refl;
+        kind = v.are_defined;
+        number = ap (λ u. returning s.ops u) v.numbers;
+        few = ltb-true s.ops 65536 (demanded (nat_lt s.ops 65536) (Limit limits.Operations (word_in name).start) x.0 x.1);
+      })
 
-record FuncRead (f : FuncShape) : Type 0 where
-  printable : IsPrintableFunc f
-  number : func_renumbered 0 0 f ≡ f
+  -- ---- bodies
 
-abbrev func_of : List ℕ → List (ValueId × Ty) → Ty → List Op → FuncShape
-func_of name params result body = record { name = name; params = params; results = result ∷ []; body = body }
+  cons_ops : (n : Names) (o : Op) (rest : List Op) → 0 < length rest → IsPrintableLine n.rows o.results o.kind → ArePrintableOps (next n o) rest → ArePrintableOps n (o ∷ rest)
+  cons_ops n o [] lt k h = absurd (omega arith)
+  cons_ops n o (p ∷ os) lt k h = (k, h)
 
-begun : At nothing start
-begun = record { reads = record { outer = tt; rows_of = λ q v ty h. absurd (cc h) }; values = refl }
+  -- the operations that come from a scope, and the scope behind them
+  record BodyRead (n : Names) (s : Scope) (r : Scope × List Op) : Type 0 where
+    ops : ArePrintableOps n r.1
+    numbers : ops_renumbered base s.ops n r.1 ≡ r.1
+    few : s.ops + length r.1 ≤ 65536
+    some : 0 < length r.1
+    values : r.0.values ≡ base + length (after_ops n r.1).rows
+    last : suc r.0.ops ≡ s.ops + length r.1
 
-function_is : (alias : Option (List ℕ)) (f : Function) (m : FuncShape) → is_word (drop 1 f.name.text) ≡ true → function_of alias f ≡ Ok m → FuncRead m
-function_is alias f m w h =
+  first_op : (n : Names) (s t u : Scope) (o : Op) (os : List Op) → OpRead n s (t, o) → BodyRead (next n o) t (u, os) → BodyRead n s (u, o ∷ os)
+  first_op n s t u o os p b =
+      let few = b.few in
+      let e = p.ops in
+      let last = b.last in
+      record {
+        ops = cons_ops n o os b.some p.line b.ops;
+        numbers = ap (λ k. op_renumbered base s.ops n o ∷ ops_renumbered base k (next n o) os) (sym p.ops) ∙ ap (λ xs. op_renumbered base s.ops n o ∷ xs) b.numbers ∙ ap (λ q. q ∷ os) p.number;
+        few = omega (arith, e, few);
+        some = omega arith;
+        values = b.values;
+        last = omega (arith, e, last);
+      }
+
+  only_op : (n : Names) (s : Scope) (last : Op) → At n s → ReturnRead n s last → BodyRead n s (s, last ∷ [])
+  only_op n s last a z =
+      let lt = z.few in
+      record {
+        ops = (z.results, z.kind);
+        numbers = ap (λ (o : Op). o ∷ []) z.number;
+        few = omega arith;
+        some = omega arith;
+        values = a.values ∙ ap (λ (rs : List (ValueId × Ty)). base + length (names_after n rs last.kind).rows) (sym z.results);
+        last = omega arith;
+      }
+
+  body_is : (alias : List AliasShape) (n : Names) (s : Scope) (name : ReturnName) (t : Returned) (ss : List Statement) (r : Scope × List Op) (last : Op) → At n s → AreUsable alias → AllByRecursion IsShortStatement ss → AllByRecursion StatementIs ss → AreLeaves (file_grammar.returned.spell t) → statements_of alias s ss ≡ Ok r → return_of r.0 name t ≡ Ok last → BodyRead n s (r.0, r.1 ++ last ∷ [])
+  body_is alias n s name t [] r last a usable short ws w h e =
+      let same = ok_same (s, []) r h in
+      let z = return_is n s name t last a w (ap (λ (q : Scope × List Op). return_of q.0 name t) same ∙ e) in
+      subst (λ (q : Scope × List Op). BodyRead n s (q.0, q.1 ++ last ∷ [])) same (only_op n s last a z)
+  body_is alias n s name t (o ∷ ss) r last a usable short ws w h e =
+      let x = then_ok (statement_of alias s o) (λ r. and_then (thread (statement_of alias) r.0 ss) (λ q. Ok (q.0, r.1 ∷ q.1))) r h in
+      let y = then_ok (thread (statement_of alias) x.0.0 ss) (λ q. Ok (q.0, x.0.1 ∷ q.1)) r x.2 in
+      let same = ok_same (y.0.0, x.0.1 ∷ y.0.1) r y.2 in
+      let one = op_is alias n s o x.0 a usable short.0 ws.0 x.1 in
+      let more = body_is alias (next n x.0.1) x.0.0 name t ss y.0 last one.at usable short.1 ws.1 w y.1 (ap (λ (q : Scope × List Op). return_of q.0 name t) same ∙ e) in
+      subst (λ (q : Scope × List Op). BodyRead n s (q.0, q.1 ++ last ∷ [])) same (first_op n s x.0.0 y.0.0 x.0.1 (y.0.1 ++ last ∷ []) one more)
+
+  whole_body : (alias : List AliasShape) (n : Names) (s : Scope) (f : Function) (r : Scope × List Op) → At n s → AreUsable alias → IsShortFunction f → FunctionIs f → body_of alias s f ≡ Ok r → BodyRead n s r
+  whole_body alias n s f r a usable short w h =
+      let b = then_ok (statements_of alias s f.statements) (λ b. and_then (return_of b.0 f.return_name f.returned) (λ last. Ok (b.0, b.1 ++ last ∷ []))) r h in
+      let l = then_ok (return_of b.0.0 f.return_name f.returned) (λ last. Ok (b.0.0, b.0.1 ++ last ∷ [])) r b.2 in
+      subst (λ (q : Scope × List Op). BodyRead n s q) (ok_same (b.0.0, b.0.1 ++ l.0 ∷ []) r l.2) (body_is alias n s f.return_name f.returned f.statements b.0 l.0 a usable short w.statements w.returned b.1 l.1)
+
+-- ---- results
+
+results_are : (k : ℕ) (ts : List TokenShape) (tys : List Ty) → k ≤ 16 → results_from k ts ≡ Ok tys → ArePrintableResults tys × (k + length tys ≤ 16)
+results_are k [] tys le h = subst (λ (xs : List Ty). ArePrintableResults xs × (k + length xs ≤ 16)) (ok_same [] tys h) (tt, omega arith)
+results_are k (t ∷ ts) tys le h =
+    let a = then_ok (result_at k t) (λ ty. and_then (results_from (suc k) ts) (λ tys. Ok (ty ∷ tys))) tys h in
+    let b = then_ok (results_from (suc k) ts) (λ tys. Ok (a.0 ∷ tys)) tys a.2 in
+    let c = then_ok (demand (nat_lt k 16) (Limit limits.Results t.start)) (λ _. type_at t) a.0 a.1 in
+    let lt = ltb-true k 16 (demanded (nat_lt k 16) (Limit limits.Results t.start) c.0 c.1) in
+    let r = results_are (suc k) ts b.0 (omega arith) b.1 in
+    subst (λ (xs : List Ty). ArePrintableResults xs × (k + length xs ≤ 16)) (ok_same (a.0 ∷ b.0) tys b.2) ((type_row t a.0 c.2, r.0), omega (arith, r.1))
+
+-- ---- functions
+
+-- a function that comes from a file's scope, and the scope behind it
+record FuncRead (s : FileScope) (r : FileScope × FuncShape) : Type 0 where
+  printable : IsPrintableFunc r.1
+  new : place 0 s.functions r.1.name ≡ None
+  number : func_renumbered s.values s.ops r.1 ≡ r.1
+  functions : r.0.functions ≡ s.functions ++ r.1.name ∷ []
+  aliases : r.0.aliases ≡ s.aliases
+  values : r.0.values ≡ s.values + values_in r.1
+  ops : r.0.ops ≡ s.ops + length r.1.body
+  few : s.ops + length r.1.body ≤ 65536
+
+abbrev func_of : List ℕ → List (ValueId × Ty) → List Ty → List Op → FuncShape
+func_of name params results body = record { name = name; params = params; results = results; body = body }
+
+begun : (s : FileScope) → At s.values nothing (opened s)
+begun s = record { reads = record { outer = tt; values = λ q at x h. absurd (cc h) }; values = omega arith }
+
+is_unknown : (names : List (List ℕ)) (at : ℕ) (name : List ℕ) (u : Unit {0}) → unknown names at name ≡ Ok u → place 0 names name ≡ None
+is_unknown names at name u h = by (place 0 names name) (demanded (is_none (place 0 names name)) (Twice at) u h)
+  where
+    by : (o : Option ℕ) → is_none o ≡ true → o ≡ None
+    by None e = refl
+    by (Some n) e = absurd (cc e)
+
+function_is : (s : FileScope) (f : Function) (m : FileScope × FuncShape) → AreUsable s.aliases → IsShortFunction f → FunctionIs f → function_of s f ≡ Ok m → FuncRead s m
+function_is s f m usable short w h =
     let x = then_ok (name_of f.name) _ m h in
-    let x1 = then_ok (demand (list_all is_ascii (drop 1 f.name.text)) (Syntax f.name.start)) _ x.0 x.1 in
-    let name = ok_same (drop 1 f.name.text) x.0 x1.2 in
-    let p = then_ok (params_of start f.params) _ m x.2 in
-    let t = then_ok (type_at f.result) _ m p.2 in
-    let b = then_ok (statements_of alias p.0.0 f.statements) _ m t.2 in
-    let l = then_ok (return_of b.0.0 f) _ m b.2 in
-    let ps = params_are nothing start f.params p.0 begun (omega arith) p.1 in
-    let body = body_is alias (after_params nothing p.0.1) p.0.0 f f.statements b.0 l.0 ps.at b.1 l.1 in
-    let zero_ops = ps.ops in
+    let x1 = then_ok (demand (list_all is_ascii (symbol_of f.name)) (Syntax f.name.start)) _ x.0 x.1 in
+    let name = ok_same (symbol_of f.name) x.0 x1.2 in
+    let u = then_ok (unknown s.functions f.name.start (symbol_of f.name)) _ m x.2 in
+    let p = then_ok (params_of (opened s) f.params) _ m u.2 in
+    let t = then_ok (results_of f.results) _ m p.2 in
+    let b = then_ok (body_of s.aliases p.0.0 f) _ m t.2 in
+    let ps = params_are s.values nothing (opened s) f.params p.0 (begun s) (omega arith) p.1 in
+    let rs = results_are 0 (types_in f.results) t.0 (omega arith) t.1 in
+    let body = whole_body s.values s.aliases (after_params nothing p.0.1) p.0.0 f b.0 ps.at usable short w b.1 in
+    let at_start = ps.ops in
     let few = ps.few in
     let few_ops = body.few in
-    subst (λ (q : FuncShape). FuncRead q) (ok_same (func_of x.0 p.0.1 t.0 (b.0.1 ++ l.0 ∷ [])) m l.2)
+    let last = body.last in
+    let z : s.values + 0 ≡ s.values = omega arith in
+    let new = is_unknown s.functions f.name.start (symbol_of f.name) u.0 u.1 in
+    subst (λ (q : FileScope × FuncShape). FuncRead s q) (ok_same (closed s (symbol_of f.name) b.0.0, func_of x.0 p.0.1 t.0 b.0.1) m b.2)
     (record {
       printable = record {
-        name = subst (λ (q : List ℕ). is_word q ≡ true) name w;
+        name = subst (λ (q : List ℕ). is_word q ≡ true) name w.name;
         few_params = omega arith;
         params = ps.types;
-        result = type_row f.result t.0 t.1;
+        few_results = omega (arith, rs.1);
+        results = rs.0;
         few_ops = omega arith;
         ops = body.ops;
       };
-      number = ap (λ ps. record { name = x.0; params = ps; results = t.0 ∷ []; body = ops_renumbered 0 0 (after_params nothing p.0.1) (b.0.1 ++ l.0 ∷ []) }) ps.numbers
-          ∙ ap (λ k. func_of x.0 p.0.1 t.0 (ops_renumbered 0 k (after_params nothing p.0.1) (b.0.1 ++ l.0 ∷ []))) (sym ps.ops)
+      new = ap (place 0 s.functions) (sym name) ∙ new;
+      number = ap (λ (v : ℕ). func_of x.0 (results_renumbered v p.0.1) t.0 (ops_renumbered s.values s.ops (after_params nothing p.0.1) b.0.1)) (sym z)
+          ∙ ap (λ ps. func_of x.0 ps t.0 (ops_renumbered s.values s.ops (after_params nothing p.0.1) b.0.1)) ps.numbers
+          ∙ ap (λ k. func_of x.0 p.0.1 t.0 (ops_renumbered s.values k (after_params nothing p.0.1) b.0.1)) (sym ps.ops)
           ∙ ap (func_of x.0 p.0.1 t.0) body.numbers;
+      functions = ap (λ (q : List ℕ). s.functions ++ q ∷ []) name;
+      aliases = refl;
+      values = body.values;
+      ops = omega (arith, at_start, last);
+      few = omega (arith, at_start, few_ops);
     })
+
+-- ---- files
+
+-- what comes from a file's scope on
+record FuncsRead (s : FileScope) (fs : List FuncShape) : Type 0 where
+  printable : ArePrintable fs
+  names : AreNew s.functions fs
+  numbers : funcs_renumbered s.values s.ops fs ≡ fs
+  few : s.ops + operations_in fs ≤ 65536
+
+-- the scopes differ in their stage or their aliases alone
+same_read : (s t : FileScope) (fs : List FuncShape) → s.functions ≡ t.functions → s.values ≡ t.values → s.ops ≡ t.ops → FuncsRead t fs → FuncsRead s fs
+same_read s t fs e v k r =
+    let few = r.few in
+    record {
+      printable = r.printable;
+      names = subst (λ (names : List (List ℕ)). AreNew names fs) (sym e) r.names;
+      numbers = ap (λ (n : ℕ). funcs_renumbered n s.ops fs) v ∙ ap (λ (n : ℕ). funcs_renumbered t.values n fs) k ∙ r.numbers;
+      few = omega (arith, k, few);
+    }
+
+first_func : (s : FileScope) (r : FileScope × FuncShape) (fs : List FuncShape) → FuncRead s r → FuncsRead r.0 fs → FuncsRead s (r.1 ∷ fs)
+first_func s r fs f m =
+    let few = m.few in
+    let ops = f.ops in
+    record {
+      printable = (f.printable, m.printable);
+      names = (f.new, subst (λ (names : List (List ℕ)). AreNew names fs) f.functions m.names);
+      numbers = ap (λ (v : ℕ). func_renumbered s.values s.ops r.1 ∷ funcs_renumbered v (s.ops + length r.1.body) fs) (sym f.values)
+          ∙ ap (λ (k : ℕ). func_renumbered s.values s.ops r.1 ∷ funcs_renumbered r.0.values k fs) (sym f.ops)
+          ∙ ap (λ (gs : List FuncShape). func_renumbered s.values s.ops r.1 ∷ gs) m.numbers ∙ ap (λ (g : FuncShape). g ∷ fs) f.number;
+      few = omega (arith, ops, few);
+    }
+
+-- the scope behind has few operations, and what comes from it comes behind
+record Leads (s : FileScope) (r : FileScope × List FuncShape) : Type 0 where
+  few : r.0.ops ≤ 65536
+  usable : AreUsable r.0.aliases
+  onto : (fs : List FuncShape) → FuncsRead r.0 fs → FuncsRead s (r.1 ++ fs)
+
+no_func : (s : FileScope) → s.ops ≤ 65536 → AreUsable s.aliases → Leads s (s, [])
+no_func s le usable = record { few = le; usable = usable; onto = λ fs r. r }
+
+more_funcs : (s : FileScope) (r : FileScope × FuncShape) (q : FileScope × List FuncShape) → FuncRead s r → Leads r.0 q → Leads s (q.0, r.1 ∷ q.1)
+more_funcs s r q f m = record { few = m.few; usable = m.usable; onto = λ fs h. first_func s r (q.1 ++ fs) f (m.onto fs h) }
+
+functions_are : (s : FileScope) (xs : List Function) (r : FileScope × List FuncShape) → s.ops ≤ 65536 → AreUsable s.aliases → AllByRecursion IsShortFunction xs → AllByRecursion FunctionIs xs → functions_of s xs ≡ Ok r → Leads s r
+functions_are s [] r le usable short w h = subst (λ (q : FileScope × List FuncShape). Leads s q) (ok_same (s, []) r h) (no_func s le usable)
+functions_are s (x ∷ xs) r le usable short w h =
+    let a = then_ok (function_of s x) (λ r. and_then (thread function_of r.0 xs) (λ q. Ok (q.0, r.1 ∷ q.1))) r h in
+    let b = then_ok (thread function_of a.0.0 xs) (λ q. Ok (q.0, a.0.1 ∷ q.1)) r a.2 in
+    let f = function_is s x a.0 usable short.0 w.0 a.1 in
+    let ops = f.ops in
+    let few = f.few in
+    let more = functions_are a.0.0 xs b.0 (omega (arith, ops, few)) (subst (λ (q : List AliasShape). AreUsable q) (sym f.aliases) usable) short.1 w.1 b.1 in
+    subst (λ (q : FileScope × List FuncShape). Leads s q) (ok_same (b.0.0, a.0.1 ∷ b.0.1) r b.2) (more_funcs s a.0 b.0 f more)
+
+-- from a scope that differs in its stage or its aliases alone
+leads_same : (s t : FileScope) (r : FileScope × List FuncShape) → s.functions ≡ t.functions → s.values ≡ t.values → s.ops ≡ t.ops → Leads t r → Leads s r
+leads_same s t r e v k l = record { few = l.few; usable = l.usable; onto = λ fs h. same_read s t (r.1 ++ fs) e v k (l.onto fs h) }
+
+abbrev with_alias : FileScope → AliasShape → FileScope
+with_alias s a = record { stage = s.stage; aliases = s.aliases ++ a ∷ []; functions = s.functions; values = s.values; ops = s.ops }
+
+abbrev alias_shape : List ℕ → MapShape → Bool → AliasShape
+alias_shape name m symbols = record { name = name; map = m; symbols = symbols }
+
+alias_printable : (aliases : List AliasShape) (a : AliasLine) (x : AliasShape) → IsShortMap a.map → alias_in aliases a ≡ Ok x → IsPrintableMap x.map
+alias_printable aliases a x short h =
+    let d = then_ok (demand (is_none (alias_named aliases a.name.text)) (Twice a.name.start)) _ x h in
+    let m = then_ok (written_map true a.map) _ x d.2 in
+    subst (λ (q : AliasShape). IsPrintableMap q.map) (ok_same (alias_shape a.name.text m.0 (has_symbols (tokens_of a.map))) x m.2) (written_printable true a.map m.0 short m.1)
+
+item_is : (s : FileScope) (i : Item) (r : FileScope × List FuncShape) → s.ops ≤ 65536 → AreUsable s.aliases → IsShortItem i → ItemIs i → item_of s i ≡ Ok r → Leads s r
+item_is s (items.Alias a) r le usable short w h =
+    let x = then_ok (alias_of s a) (λ t. Ok (t, [])) r h in
+    let y = then_ok (alias_in s.aliases a) (λ q. Ok (with_alias s q)) x.0 x.1 in
+    subst (λ (q : FileScope × List FuncShape). Leads s q) (ok_same (x.0, []) r x.2)
+    (subst (λ (t : FileScope). Leads s (t, [])) (ok_same (with_alias s y.0) x.0 y.2)
+    (leads_same s (with_alias s y.0) (with_alias s y.0, []) refl refl refl (no_func (with_alias s y.0) le (usable_last s.aliases y.0 usable (alias_printable s.aliases a y.0 short y.1)))))
+item_is s (items.Function f) r le usable short w h =
+    let x = then_ok (demand (not (is_closed s.stage)) (Syntax f.keyword.start)) _ r h in
+    let y = then_ok (function_of (at_stage s Functions) f) (λ r. Ok (r.0, r.1 ∷ [])) r x.2 in
+    let g = function_is (at_stage s Functions) f y.0 usable short w y.1 in
+    let ops = g.ops in
+    let few = g.few in
+    subst (λ (q : FileScope × List FuncShape). Leads s q) (ok_same (y.0.0, y.0.1 ∷ []) r y.2)
+    (leads_same s (at_stage s Functions) (y.0.0, y.0.1 ∷ []) refl refl refl (more_funcs (at_stage s Functions) y.0 (y.0.0, []) g (no_func y.0.0 (omega (arith, ops, few)) (subst (λ (q : List AliasShape). AreUsable q) (sym g.aliases) usable))))
+item_is s (items.Module m) r le usable short w h =
+    let x = then_ok (demand (is_start s.stage) (Syntax m.keyword.start)) _ r h in
+    leads_same s (at_stage s Closed) r refl refl refl (functions_are (at_stage s Closed) m.functions r le usable short w x.2)
+
+items_are : (s : FileScope) (is : List Item) (fs : List FuncShape) → s.ops ≤ 65536 → AreUsable s.aliases → AllByRecursion IsShortItem is → AllByRecursion ItemIs is → items_of s is ≡ Ok fs → FuncsRead s fs
+items_are s [] fs le usable short w h = subst (λ (gs : List FuncShape). FuncsRead s gs) (ok_same [] fs h) (record { printable = tt; names = tt; numbers = refl; few = omega arith })
+items_are s (i ∷ is) fs le usable short w h =
+    let a = then_ok (item_of s i) (λ r. and_then (items_of r.0 is) (λ fs. Ok (r.1 ++ fs))) fs h in
+    let b = then_ok (items_of a.0.0 is) (λ fs. Ok (a.0.1 ++ fs)) fs a.2 in
+    let l = item_is s i a.0 le usable short.0 w.0 a.1 in
+    subst (λ (gs : List FuncShape). FuncsRead s gs) (ok_same (a.0.1 ++ b.0) fs b.2) (l.onto b.0 (items_are a.0.0 is b.0 l.few l.usable short.1 w.1 b.1))
 
 pub record ModuleRead (m : Module) : Type 0 where
   pub printable : IsPrintable m
   pub number : renumbered m ≡ m
 
-abbrev one_function : FuncShape → Module
-one_function f = record { funcs = f ∷ [] }
+abbrev module_of : List FuncShape → Module
+module_of fs = record { funcs = fs }
 
--- what a tree stands for is printable and numbered as its text, where the function's name is a word
-pub module_is : (t : Text) (m : Module) → is_word (drop 1 (function_in (item_in t)).name.text) ≡ true → resolve t ≡ Ok m → ModuleRead m
-module_is t m w h =
-    let x = then_ok (function_of (alias_in t) (function_in (item_in t))) _ m h in
-    let f = function_is (alias_in t) (function_in (item_in t)) x.0 w x.1 in
-    subst (λ (q : Module). ModuleRead q) (ok_same (one_function x.0) m x.2) (record { printable = f.printable; number = ap one_function f.number })
+-- what a tree stands for is printable and numbered as its text, whose tokens are of their classes
+pub module_is : (t : Text) (m : Module) → AllByRecursion IsShortItem t.items → AllByRecursion ItemIs t.items → resolve t ≡ Ok m → ModuleRead m
+module_is t m short w h =
+    let x = then_ok (items_of start t.items) _ m h in
+    let r = items_are start t.items x.0 (omega arith) tt short w x.1 in
+    let few = r.few in
+    subst (λ (q : Module). ModuleRead q) (ok_same (module_of x.0) m x.2) (record { printable = record { funcs = r.printable; names = r.names; few_ops = omega (arith, few) }; number = ap module_of r.numbers })

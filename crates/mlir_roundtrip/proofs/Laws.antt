@@ -1,5 +1,5 @@
 -- The canonical text of what is read stands for it.
-use Rattle.std.proofs.Common.{◌≡◌, ℕ, List, None, length, Ok, Err, Result, sym, ap, subst, ◌∙◌, []}
+use Rattle.std.proofs.Common.{◌≡◌, ◌≤◌, ◌^◌, ℕ, List, None, length, arith, Ok, Err, Result, sym, ap, subst, ◌∙◌, []}
 use Rattle.text_format.specs.Token.{TokenShape}
 use Rattle.text_format.specs.Pieces.{Piece, IsSpaced, bytes_of, spans_at, shapes_at}
 use Rattle.text_format.specs.Tokens as lexed
@@ -9,20 +9,24 @@ use Rattle.text_format.specs.Places.{is_read}
 use Rattle.text_format.specs.Formats.{Item}
 use Rattle.text_format.specs.Laws.{Matches}
 use Rattle.text_format.proofs.Printed.{spans_of_pieces, shapes_of_pieces}
-use Rattle.mlir_syntax.specs.Grammar.{text}
-use Rattle.mlir_syntax.specs.Laws.{text-whole}
+use Rattle.mlir_syntax.specs.Files.{text}
+use Rattle.mlir_syntax.specs.FileLaws.{text-whole}
 use Rattle.mlir_ir.specs.declared.tree.Module.{Module}
-use Rattle.mlir_read.specs.declared.fault.Fault.{Fault}
+use Rattle.mlir_lex.specs.declared.fault.Fault.{Fault}
 use Rattle.mlir_lex.specs.declared.read_error.ReadError.{ReadError}
-use Rattle.mlir_read.specs.Reading.{StandsFor, first_of, of_tree, of_tokens, of_lexed, reading}
+use Rattle.mlir_lex.specs.Faults.{first_of}
+use Rattle.mlir_read.specs.Reading.{StandsFor, of_tree, of_tokens, of_lexed, reading}
 use Rattle.mlir_print.specs.Canonical.{text_at, text_of}
 use Rattle.mlir_print.specs.Renumbered.{renumbered}
 use Rattle.mlir_roundtrip.specs.Printable.{IsPrintable}
-use Rattle.mlir_roundtrip.proofs.Spaced.{text_spaced}
-use Rattle.mlir_roundtrip.proofs.Spelled.{text_spelled}
-use Rattle.mlir_roundtrip.proofs.Fitting.{text_fits, matched}
-use Rattle.mlir_roundtrip.proofs.Rounds.{text_found}
-use Rattle.mlir_roundtrip.proofs.Symbols.{spelled_name}
+use Rattle.mlir_roundtrip.proofs.FileSpaced.{text_spaced}
+use Rattle.mlir_roundtrip.proofs.FileSpelled.{text_spelled}
+use Rattle.mlir_roundtrip.proofs.Leaves.{matched}
+use Rattle.mlir_roundtrip.proofs.FileFitting.{text_fits}
+use Rattle.mlir_roundtrip.proofs.FileRounds.{text_found}
+use Rattle.mlir_roundtrip.proofs.Symbols.{spelled_items}
+use Rattle.mlir_roundtrip.proofs.Short.{text_short}
+use Rattle.mlir_roundtrip.proofs.TokenCount.{few_tokens}
 use Rattle.mlir_roundtrip.proofs.Functions.{ModuleRead, module_is}
 
 abbrev got : List TokenShape → Result (List TokenShape) lexed.Fault → List TokenShape
@@ -50,13 +54,15 @@ canonical_stands m h =
     )
 
 -- What a text stands for is printable, and has the numbers of its canonical text.
-pub read_is_printable : (source : List ℕ) (m : Module) → StandsFor source m → ModuleRead m
-read_is_printable source m st = module_is st.0 m (spelled_name source st.0 st.1.0 st.1.1 st.1.2) st.2
+pub read_is_printable : (source : List ℕ) (m : Module) → length source ≤ 2 ^ 32 → StandsFor source m → ModuleRead m
+read_is_printable source m few st =
+    let count = few_tokens source st.1.0 st.1.1 in
+    module_is st.0 m (text_short st.0 (tokens_in source st.1.0) st.1.2 (omega (arith, few, count))) (spelled_items source st.0 st.1.0 st.1.1 st.1.2) st.2
 
 -- The canonical text of what a text stands for stands for it.
-pub reads_back : (source : List ℕ) (m : Module) → StandsFor source m → StandsFor (text_of m) m
-reads_back source m st =
-    let r = read_is_printable source m st in
+pub reads_back : (source : List ℕ) (m : Module) → length source ≤ 2 ^ 32 → StandsFor source m → StandsFor (text_of m) m
+reads_back source m few st =
+    let r = read_is_printable source m few st in
     subst (λ (x : Module). StandsFor (text_of m) x) r.number (canonical_stands m r.printable)
 
 abbrev read_in : Module → Result Module ReadError → Module

@@ -1,15 +1,42 @@
-pub mod Rows
-pub mod Fits
-pub mod Envs
+pub mod AliasLines
 pub mod Aliases
+pub mod ConstantsFound
+mod ConstantsRead
+mod DenseRead
+mod DenseWords
+pub mod Envs
+mod FileFitting
+mod FileRounds
+mod FileSpaced
+mod FileSpelled
+pub mod Fits
+pub mod Fitting
+pub mod Functions
+pub mod Laws
+mod Leaves
+pub mod MapUses
+pub mod Maps
+pub mod MapsRead
+pub mod ModuleMaps
+pub mod Numbers
+pub mod Operations
+mod PayloadFitting
+mod PayloadSpaced
+mod PayloadSpelled
+mod Placing
+mod ReadTypes
 pub mod Readable
-pub mod Spaced
 pub mod Regions
 pub mod Rounds
+pub mod Rows
+pub mod Short
+pub mod Spaced
 pub mod Spelled
-pub mod Fitting
-pub mod Values
-pub mod Operations
-pub mod Functions
+mod Spots
+mod StepsRead
 pub mod Symbols
-pub mod Laws
+mod TokenCount
+mod Typed
+pub mod Usable
+pub mod Values
+mod Writing

@@ -1,23 +1,25 @@
--- The text of a tensor of rank 1 reads as its type.
-use Rattle.std.proofs.Common.{◌≡◌, ◌<◌, ◌≤◌, ◌^◌, ℕ, ◌+◌, ◌-◌, ◌*◌, suc, zero, Bool, true, false, cond, ◌&&◌, List, [], ◌∷◌, ◌++◌, length, drop, Ok, Option, Some, None, refl, sym, ap, ◌∙◌, arith, codes, decimal, append_assoc, length-append, nat_eq, nat_le, nat_lt}
+-- The text of a tensor's type reads as that type.
+use Rattle.std.proofs.Common.{◌≡◌, ◌<◌, ◌≤◌, ◌^◌, ℕ, ◌+◌, ◌-◌, ◌*◌, suc, zero, Bool, true, false, ◌&&◌, List, [], ◌∷◌, ◌++◌, length, map, drop, Ok, Option, Some, None, refl, sym, ap, ◌∙◌, arith, codes, decimal, append_assoc, length-append, nat_eq, nat_le, nat_lt}
 use Rattle.std.proofs.lemmas.Bool.{cond-true, cond-false, le-leb, le-ltb, and_from, and_parts, eq-eqb, leb-true, leb-false}
 use Rattle.std.proofs.lemmas.Fmt.{digits_decimal, digits_value-decimal, decimal_is_IsNumeral}
-use Rattle.std.proofs.lemmas.List.{drop_at, take_at}
+use Rattle.std.proofs.lemmas.List.{drop_at, take_at, length-map}
 use Rattle.std.proofs.lemmas.Str.Parse.{IsNumeralModel, numerals_by_fold, tells_digits, digit_from_value}
 use Rattle.std.specs.Fmt.{digits}
 use Rattle.std.specs.Str.Parse.{AllDigits}
 use Rattle.payload_ops.specs.declared.kinds.ElemTy.TheVariants.{Int}
 use Rattle.payload_ops.specs.Payload.{has_type}
 use Rattle.text_format.specs.Bytes.{is_digit}
-use Rattle.text_format.specs.Types.{number_at, behind_extent, with_extent, shape_inside, shape_of, shape_from, is_shaped, inside, width_of, element_of, is_some}
+use Rattle.text_format.specs.Types.{number_at, no_extents, extent_before, begins_with_digit, extents_in, extents_of, extent_of, ranked_from, is_shaped, inside, width_of, element_of, is_some}
+use Rattle.text_format.proofs.Extents.{behind_number, number_first}
 use Rattle.text_format.specs.declared.types.Extent.TheVariants as written
-use Rattle.text_format.specs.declared.types.Shape.{Shape}
 use Rattle.mlir_ir.specs.declared.tree.Ty.{Ty}
 use Rattle.mlir_ir.specs.declared.tree.Ty.TheVariants.{Tensor}
-use Rattle.mlir_ir.specs.declared.tree.Extent.TheVariants.{Fixed}
-use Rattle.mlir_read.specs.Types.{shape_type, is_shape, elem_of}
-use Rattle.mlir_print.specs.Types.{ty_text, elem_text}
-use Rattle.mlir_roundtrip.specs.Printable.{IsRowType}
+use Rattle.mlir_ir.specs.declared.tree.Extent.{Extent}
+use Rattle.mlir_ir.specs.declared.tree.Extent.TheVariants.{Fixed, Any}
+use Rattle.mlir_lex.specs.Chain.{each}
+use Rattle.mlir_read.specs.Types.{extent_at, counted, elements, shape_type, are_extents, is_shape, elem_of}
+use Rattle.mlir_print.specs.Types.{ty_text, elem_text, extents_text}
+use Rattle.mlir_roundtrip.specs.Printable.{AreKept, IsKeptTensor, IsTensorType}
 
 abbrev fold : ℕ → List ℕ → ℕ
 fold n [] = n
@@ -37,12 +39,9 @@ reads (c ∷ cs) n b rest a e = cond-true (is_digit c) (number_at (cs ++ b ∷ r
 number_read : (n b : ℕ) (rest : List ℕ) → n < 2 ^ 64 → is_digit b ≡ false → number_at (decimal n ++ b ∷ rest) 0 ≡ (n, b ∷ rest)
 number_read n b rest s e = reads (decimal n) 0 b rest (digits_decimal model n s) e ∙ ap (λ k. (k, b ∷ rest)) (digits_value-decimal model n s)
 
-abbrev behind : ℕ × List ℕ → Option (ℕ × ℕ)
-behind p = behind_extent p.0 p.1
-
-first_digit : (ds rest : List ℕ) → 0 < length ds → AllDigits 10 ds → shape_inside (ds ++ rest) ≡ behind (number_at (ds ++ rest) 0)
-first_digit [] rest s a = absurd (omega arith)
-first_digit (d ∷ ds) rest s a = cond-true (is_digit d) (behind (number_at (d ∷ (ds ++ rest)) 0)) None (digit d ds a)
+digit_first : (ds rest : List ℕ) → 0 < length ds → AllDigits 10 ds → begins_with_digit (ds ++ rest) ≡ true
+digit_first [] rest s a = absurd (omega arith)
+digit_first (d ∷ ds) rest s a = digit d ds a
 
 -- ---- what holds of each width
 
@@ -66,7 +65,7 @@ that : (o : Option ℕ) (w : ℕ) → is_that o w ≡ true → o ≡ Some w
 that None w h = absurd (cc h)
 that (Some v) w h = let p = and_parts (nat_le v w) (nat_le w v) h in let a = leb-true v w p.0 in let b = leb-true w v p.1 in let e : v ≡ w = omega arith in ap (λ x. Some x) e
 
-width_read : (w : ℕ) → 0 < w → w ≤ 64 → width_of (105 ∷ decimal w) ≡ Some w
+pub width_read : (w : ℕ) → 0 < w → w ≤ 64 → width_of (105 ∷ decimal w) ≡ Some w
 unfolding digits
 width_read w lo hi = that (width_of (105 ∷ decimal w)) w (up_to (λ v. is_that (width_of (105 ∷ decimal v)) v) 64 w refl lo hi)
 
@@ -74,12 +73,27 @@ pub elem_read : (w : ℕ) → 0 < w → w ≤ 64 → has_type (element_of (elem_
 unfolding digits
 elem_read w lo hi = up_to (λ v. has_type (element_of (elem_text (Int v))) (Int v)) 64 w refl lo hi
 
--- ---- a row's type
+-- ---- a tensor's type
 
-inside_read : (n w : ℕ) → n < 2 ^ 64 → 0 < w → w ≤ 64 → shape_inside (decimal n ++ 120 ∷ (105 ∷ decimal w)) ≡ Some (n, w)
-inside_read n w s lo hi =
+-- the extents as numbers
+abbrev numbers : List Extent → List ℕ
+numbers es = map counted es
+
+abbrev text_in : List Extent → ℕ → List ℕ
+text_in es w = extents_text es ++ (105 ∷ decimal w)
+
+extents_read : (es : List Extent) (w : ℕ) → AreKept es → 0 < w → w ≤ 64 → extents_in (text_in es w) None ≡ Some (numbers es, w)
+extents_read [] w k lo hi = ap no_extents (width_read w lo hi)
+extents_read (Fixed n ∷ es) w k lo hi =
+    let s : n < 2 ^ 64 = omega (arith, k.0) in
     let d = decimal_is_IsNumeral n s in
-    first_digit (decimal n) (120 ∷ (105 ∷ decimal w)) d.0.0 d.0.1 ∙ ap behind (number_read n 120 (105 ∷ decimal w) s refl) ∙ ap (with_extent n) (width_read w lo hi)
+    let rest = text_in es w in
+    let e : text_in (Fixed n ∷ es) w ≡ decimal n ++ 120 ∷ text_in es w = append_assoc (decimal n) (120 ∷ extents_text es) (105 ∷ decimal w) in
+    ap (λ (t : List ℕ). extents_in t None) e
+    ∙ number_first (decimal n ++ 120 ∷ text_in es w) (digit_first (decimal n) (120 ∷ text_in es w) d.0.0 d.0.1)
+    ∙ ap behind_number (number_read n 120 (text_in es w) s refl)
+    ∙ ap (extent_before n) (extents_read es w k.1 lo hi)
+extents_read (Any ∷ es) w k lo hi = absurd k
 
 shaped_text : (ins : List ℕ) → is_shaped (codes "tensor<") (codes "tensor<" ++ (ins ++ codes ">")) ≡ true
 shaped_text ins =
@@ -93,47 +107,62 @@ inside_is ins =
     let k = length-append ins (codes ">") in
     take_at ins (codes ">") (length (codes "tensor<" ++ (ins ++ codes ">")) - 8) (omega arith)
 
-shape_read : (ins : List ℕ) → shape_of (codes "tensor<" ++ (ins ++ codes ">")) ≡ shape_inside ins
-unfolding shape_of
-shape_read ins = cond-true (is_shaped (codes "tensor<") (codes "tensor<" ++ (ins ++ codes ">"))) (shape_inside (inside (codes "tensor<" ++ (ins ++ codes ">")))) None (shaped_text ins) ∙ ap shape_inside (inside_is ins)
+inside_read : (ins : List ℕ) → extents_of (codes "tensor<" ++ (ins ++ codes ">")) ≡ extents_in ins None
+unfolding extents_of
+inside_read ins = cond-true (is_shaped (codes "tensor<") (codes "tensor<" ++ (ins ++ codes ">"))) (extents_in (inside (codes "tensor<" ++ (ins ++ codes ">"))) None) None (shaped_text ins) ∙ ap (λ (t : List ℕ). extents_in t None) (inside_is ins)
 
-abbrev row_shape : ℕ → ℕ → Shape
-row_shape n w = record { extent = written.Fixed n; width = w }
+-- the text of a tensor's type, inside and around it
+pub type_text : (es : List Extent) (w : ℕ) → ty_text (Tensor es w) ≡ codes "tensor<" ++ (text_in es w ++ codes ">")
+type_text es w = ap (λ (t : List ℕ). codes "tensor<" ++ t) (sym (append_assoc (extents_text es) (105 ∷ decimal w) (codes ">")))
 
-row_read : (n w : ℕ) → n ≤ 1048576 → 0 < w → w ≤ 64 → shape_from (shape_of (ty_text (Tensor (Fixed n ∷ []) w))) ≡ Some (row_shape n w)
-row_read n w le lo hi =
-    let e : (decimal n ++ 120 ∷ []) ++ ((105 ∷ decimal w) ++ codes ">") ≡ (decimal n ++ 120 ∷ (105 ∷ decimal w)) ++ codes ">" = append_assoc (decimal n) (120 ∷ []) ((105 ∷ decimal w) ++ codes ">") ∙ sym (append_assoc (decimal n) (120 ∷ (105 ∷ decimal w)) (codes ">")) in
-    ap (λ (t : List ℕ). shape_from (shape_of (codes "tensor<" ++ t))) e
-    ∙ ap shape_from (shape_read (decimal n ++ 120 ∷ (105 ∷ decimal w)) ∙ inside_read n w (omega arith) lo hi)
-    ∙ ap (λ b. Some (record { extent = cond b (written.Fixed n) written.TooLarge; width = w })) (le-leb n 1048576 le)
+pub type_read : (es : List Extent) (w : ℕ) → IsKeptTensor es w → extents_of (ty_text (Tensor es w)) ≡ Some (numbers es, w)
+type_read es w h = ap extents_of (type_text es w) ∙ inside_read (text_in es w) ∙ extents_read es w h.extents h.some h.most
 
 -- the text of a type reads as that type
 pub record Readable (ty : Ty) : Type 0 where
-  pub shaped : (at : ℕ) → shape_type at (shape_from (shape_of (ty_text ty))) ≡ Ok ty
-  pub same : is_shape (shape_from (shape_of (ty_text ty))) ty ≡ true
+  pub shaped : (at : ℕ) → shape_type at (ranked_from (extents_of (ty_text ty))) ≡ Ok ty
+  pub same : is_shape (ranked_from (extents_of (ty_text ty))) ty ≡ true
   pub elem : has_type (element_of (elem_text (elem_of ty))) (elem_of ty) ≡ true
 
 same_number : (n : ℕ) → nat_eq n n ≡ true
 same_number n = eq-eqb n n refl
 
-row_readable : (n w : ℕ) → n ≤ 1048576 → 0 < w → w ≤ 64 → Readable (Tensor (Fixed n ∷ []) w)
-row_readable n w le lo hi = record {
-  shaped = λ at. ap (shape_type at) (row_read n w le lo hi);
-  same = rw (row_read n w le lo hi, same_number n, same_number w) refl;
-  elem = elem_read w lo hi;
-}
+-- an extent within the limit is kept
+kept_extent : (n : ℕ) → n ≤ 1048576 → extent_of n ≡ written.Fixed n
+kept_extent n h = cond-true (nat_le n 1048576) (written.Fixed n) written.TooLarge (le-leb n 1048576 h)
 
--- its text is one of a tensor of rank 1
-pub row_shaped : (ty : Ty) → IsRowType ty → is_some (shape_of (ty_text ty)) ≡ true
-row_shaped (Tensor (Fixed n ∷ []) w) r =
-    let e : (decimal n ++ 120 ∷ []) ++ ((105 ∷ decimal w) ++ codes ">") ≡ (decimal n ++ 120 ∷ (105 ∷ decimal w)) ++ codes ">" = append_assoc (decimal n) (120 ∷ []) ((105 ∷ decimal w) ++ codes ">") ∙ sym (append_assoc (decimal n) (120 ∷ (105 ∷ decimal w)) (codes ">")) in
-    ap (λ (t : List ℕ). is_some (shape_of (codes "tensor<" ++ t))) e ∙ ap is_some (shape_read (decimal n ++ 120 ∷ (105 ∷ decimal w)) ∙ inside_read n w (omega (arith, r.0)) r.1 r.2)
-row_shaped ty r = absurd r
+all_kept : (at : ℕ) (es : List Extent) → AreKept es → each (extent_at at) (map extent_of (numbers es)) ≡ Ok es
+all_kept at [] k = refl
+all_kept at (Fixed n ∷ es) k = rw (kept_extent n k.0, all_kept at es k.1) refl
+all_kept at (Any ∷ es) k = absurd k
+
+all_same : (es : List Extent) → AreKept es → are_extents (map extent_of (numbers es)) es ≡ true
+all_same [] k = refl
+all_same (Fixed n ∷ es) k = rw (kept_extent n k.0, same_number n) (all_same es k.1)
+all_same (Any ∷ es) k = absurd k
+
+as_many : (es : List Extent) → length (map extent_of (numbers es)) ≡ length es
+as_many es = length-map (numbers es) extent_of ∙ length-map es counted
+
+tensor_readable : (es : List Extent) (w : ℕ) → IsKeptTensor es w → Readable (Tensor es w)
+tensor_readable es w h =
+    let rank : nat_le (length (map extent_of (numbers es))) 8 ≡ true = le-leb (length (map extent_of (numbers es))) 8 (omega (arith, as_many es, h.rank)) in
+    let few = le-leb (elements es) 4194304 h.few in
+    record {
+      shaped = λ at. rw (type_read es w h, rank, all_kept at es h.extents, few) refl;
+      same = rw (type_read es w h, all_same es h.extents, same_number w) refl;
+      elem = elem_read w h.some h.most;
+    }
+
+-- its text is one of a tensor
+pub row_shaped : (ty : Ty) → IsTensorType ty → is_some (extents_of (ty_text ty)) ≡ true
+row_shaped (Tensor es w) h = ap is_some (type_read es w h)
+row_shaped ty h = absurd h
 
 pub elem_some : (w : ℕ) → 0 < w → w ≤ 64 → is_some (element_of (elem_text (Int w))) ≡ true
 unfolding digits
 elem_some w lo hi = up_to (λ v. is_some (element_of (elem_text (Int v)))) 64 w refl lo hi
 
-pub readable : (ty : Ty) → IsRowType ty → Readable ty
-readable (Tensor (Fixed n ∷ []) w) r = row_readable n w r.0 r.1 r.2
-readable ty r = absurd r
+pub readable : (ty : Ty) → IsTensorType ty → Readable ty
+readable (Tensor es w) h = tensor_readable es w h
+readable ty h = absurd h

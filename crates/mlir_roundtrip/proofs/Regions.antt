@@ -1,34 +1,46 @@
 -- The canonical tree of a payload stands for the payload.
-use Rattle.std.proofs.Common.{◌≡◌, ◌<◌, ◌≤◌, ◌^◌, ◌⊎◌, inl, inr, subst, ℕ, ◌+◌, suc, zero, true, List, [], ◌∷◌, ◌++◌, length, Some, None, Ok, refl, sym, ap, ◌∙◌, append_assoc, length-append, arith, nat_lt}
+use Rattle.std.proofs.Common.{◌≡◌, ◌<◌, ◌≤◌, ◌^◌, ◌⊎◌, inl, inr, subst, ℕ, ◌+◌, suc, zero, true, ◌&&◌, List, [], ◌∷◌, ◌++◌, length, Option, Some, None, Result as Answer, Ok, refl, sym, ap, ◌∙◌, append_assoc, length-append, arith, nat_lt}
 use Rattle.std.specs.Prelude.{slice_get}
 use Rattle.std.specs.List.{AllByRecursion}
 use Rattle.std.specs.Option.{option_map}
-use Rattle.std.proofs.lemmas.Bool.{and_parts, lt-ltb}
+use Rattle.std.proofs.lemmas.Bool.{and_parts, lt-ltb, le-leb}
 use Rattle.std.proofs.lemmas.List.{append-nil}
 use Rattle.payload_ops.specs.declared.kinds.ElemTy.{ElemTy}
-use Rattle.payload_ops.specs.declared.kinds.BinOp.TheVariants.{Addi}
+use Rattle.payload_ops.specs.declared.kinds.ElemTy.TheVariants.{Int, Index}
+use Rattle.payload_ops.specs.declared.kinds.BinOp.{BinOp}
+use Rattle.payload_ops.specs.declared.kinds.BinOp.TheVariants as binaries
+use Rattle.payload_ops.specs.declared.kinds.Predicate.{Predicate}
+use Rattle.payload_ops.specs.declared.kinds.Predicate.TheVariants as predicates
 use Rattle.payload_ops.specs.declared.step.Arg.{Arg}
 use Rattle.payload_ops.specs.declared.step.Arg.TheVariants.{Input, Out, Step as StepArg}
 use Rattle.payload_ops.specs.declared.step.StepOp.{StepOp}
-use Rattle.payload_ops.specs.declared.step.StepOp.TheVariants.{Binary}
+use Rattle.payload_ops.specs.declared.step.StepOp.TheVariants as ops
 use Rattle.payload_ops.specs.declared.step.PayloadStep.{PayloadStep}
 use Rattle.payload_ops.specs.Shape.{PayloadShape}
-use Rattle.payload_ops.specs.Payload.{arg_type, has_type, op_fits, steps_fit, payload_fits}
-use Rattle.text_format.specs.Types.{element_of}
+use Rattle.payload_ops.specs.Payload.{is_elem, is_narrower, arg_type, has_type, have_one_type, op_fits, steps_fit, payload_fits}
 use Rattle.text_format.specs.Token.{TokenShape}
-use Rattle.mlir_syntax.specs.declared.tree.NextArg.{NextArg}
-use Rattle.mlir_syntax.specs.declared.tree.Step.{Step}
+use Rattle.mlir_syntax.specs.declared.tree.payloads.NextArg.{NextArg}
+use Rattle.mlir_syntax.specs.declared.tree.payloads.Step.{Step}
 use Rattle.mlir_read.specs.declared.names.Meaning.TheVariants.{Local}
+use Rattle.mlir_lex.specs.Chain.{and_then}
 use Rattle.mlir_read.specs.Names.{Entry, entry, find}
-use Rattle.mlir_read.specs.Payload.{locals_of, arg_of, more_args, block_args, step_of, steps_of, payload_of}
+use Rattle.mlir_read.specs.declared.names.Inside.{Inside}
+use Rattle.mlir_lex.specs.declared.fault.Fault.{Fault}
+use Rattle.mlir_read.specs.declared.words.Cast.{Cast}
+use Rattle.mlir_read.specs.declared.words.Cast.TheVariants as changes
+use Rattle.mlir_read.specs.Words.{binary_text, predicate_text, cast_text, named_binary, named_predicate, named_cast}
+use Rattle.mlir_read.specs.Steps.{is_integer, with_step, operation_of, step_of, steps_of}
+use Rattle.mlir_read.specs.Payload.{locals_of, arg_of, more_args, block_args, payload_of}
 use Rattle.mlir_print.specs.declared.names.Given.{Given}
 use Rattle.mlir_print.specs.Types.{elem_text}
 use Rattle.mlir_print.specs.Names.{given_text, local_name}
 use Rattle.mlir_print.specs.Writers.{Writer, each_of}
-use Rattle.mlir_print.specs.Payloads.{next_args_at, block_args_at, step_at, steps_at, region_at}
-use Rattle.mlir_roundtrip.specs.Printable.{IsSum}
+use Rattle.mlir_print.specs.Payloads.{next_args_at, block_args_at, elem_or, type_in, operation_at, step_at, steps_at, region_at}
+use Rattle.mlir_read.specs.Literals.{is_written}
+use Rattle.mlir_roundtrip.specs.Printable.{IsPrintableOp, IsPrintableStep}
+use Rattle.mlir_roundtrip.proofs.Numbers.{Good, elem_good, good_read, decimal_value, literal_read}
 use Rattle.mlir_roundtrip.proofs.Envs.{arg_name, result_name, find_more, find_new, IsCanon, AreCanon, Small, fresh_arg, fresh_result}
-use Rattle.mlir_roundtrip.proofs.Fits.{found_type, get_last, mapped}
+use Rattle.mlir_roundtrip.proofs.Fits.{same_elem, found_type, get_last, mapped, one_found, widening_found, narrowing_found, cast_found, arg_text}
 
 -- ---- lists of trees
 
@@ -57,10 +69,6 @@ canon_more a r b s la lr (e ∷ es) h = (wider a r b s la lr e.name h.0, canon_m
 
 -- ---- the inside of a payload
 
--- the text of the element type reads as it
-abbrev pub Good : ElemTy → Type 0
-Good e = has_type (element_of (elem_text e)) e ≡ true
-
 -- the local's name stands for it
 abbrev pub HeldIn : (Arg → Given) → List Entry → Arg → ElemTy → Type 0
 HeldIn name env x e = find env (given_text (name x)) ≡ Some (Local x e)
@@ -82,11 +90,12 @@ inputs_last : (name : Arg → Given) (env more : List Entry) (es : List ElemTy) 
 inputs_last name env more es e h n j f g = input_if name env more es e f j h n (get_last es e f j g)
 
 -- one of the block's arguments, which comes next
-arg_goes : (c r : ℕ) (env : List Entry) (x : Arg) (e : ElemTy) (name ty : TokenShape) → Small c r → AreCanon c r env → Good e → name.text ≡ arg_name c → ty.text ≡ elem_text e
-    → (arg_of env (x, e) name ty ≡ Ok (grown env (arg_name c) x e)) × (find (grown env (arg_name c) x e) (arg_name c) ≡ Some (Local x e)) × AreCanon (c + 1) r (grown env (arg_name c) x e)
-arg_goes c r env x e name ty small canon good n t =
-    let none = fresh_arg c r env small canon in (
-      rw (n, t, none, good) refl,
+arg_goes : (c r : ℕ) (outer env : List Entry) (x : Arg) (e : ElemTy) (name ty : TokenShape) → Small c r → AreCanon c r outer → AreCanon c r env → Good e → name.text ≡ arg_name c → ty.text ≡ elem_text e
+    → (arg_of outer env (x, e) name ty ≡ Ok (grown env (arg_name c) x e)) × (find (grown env (arg_name c) x e) (arg_name c) ≡ Some (Local x e)) × AreCanon (c + 1) r (grown env (arg_name c) x e)
+arg_goes c r outer env x e name ty small away canon good n t =
+    let none = fresh_arg c r env small canon in
+    let far = fresh_arg c r outer small away in (
+      rw (n, t, far, none, good) refl,
       find_new env (arg_name c) (Local x e) none,
       all_last (λ e. IsCanon (c + 1) r e.name) env (entry (arg_name c) (Local x e)) (canon_more c r (c + 1) r (omega arith) (omega arith) env canon) (inl (c, omega arith, refl)),
     )
@@ -96,15 +105,15 @@ pub record Block (name : Arg → Given) (b r : ℕ) (ins : List ElemTy) (out : E
   pub output : HeldIn name env Out out
   pub canon : AreCanon b r env
 
-more_go : (close : TokenShape) (a n r k c : ℕ) (es : List ElemTy) (out : ElemTy) (done : List ElemTy) (env : List Entry) (xs : List NextArg)
-    → c ≡ a + k → k ≡ length done → k + length es ≡ n → a + n < 2 ^ 64 → r < 2 ^ 64 → InputsHeld (local_name a n r) env done → AreCanon c r env → AllByRecursion Good es → Good out → Laid (next_args_at c es out) xs
-    → (env2 : List Entry) × (more_args close env (locals_of k es out) xs ≡ Ok env2) × Block (local_name a n r) (a + n + 1) r (done ++ es) out env2
-more_go close a n r k c [] out done env [] ce ke ne sa sr i canon ges go l = absurd l
-more_go close a n r k c [] out done env (x ∷ (y ∷ ys)) ce ke ne sa sr i canon ges go l = absurd l.1
-more_go close a n r k c [] out done env (x ∷ []) ce ke ne sa sr i canon ges go l =
+more_go : (close : TokenShape) (a n r k c : ℕ) (es : List ElemTy) (out : ElemTy) (done : List ElemTy) (outer env : List Entry) (xs : List NextArg)
+    → c ≡ a + k → k ≡ length done → k + length es ≡ n → a + n < 2 ^ 64 → r < 2 ^ 64 → InputsHeld (local_name a n r) env done → AreCanon c r outer → AreCanon c r env → AllByRecursion Good es → Good out → Laid (next_args_at c es out) xs
+    → (env2 : List Entry) × (more_args close outer env (locals_of k es out) xs ≡ Ok env2) × Block (local_name a n r) (a + n + 1) r (done ++ es) out env2
+more_go close a n r k c [] out done outer env [] ce ke ne sa sr i away canon ges go l = absurd l
+more_go close a n r k c [] out done outer env (x ∷ (y ∷ ys)) ce ke ne sa sr i away canon ges go l = absurd l.1
+more_go close a n r k c [] out done outer env (x ∷ []) ce ke ne sa sr i away canon ges go l =
     let same : a + n ≡ c = omega arith in
     let small : Small c r = record { args = omega arith; results = sr } in
-    let one = arg_goes c r env Out out x.name x.ty small canon go (ap (λ (y : NextArg). y.name.text) l.0.1) (ap (λ (y : NextArg). y.ty.text) l.0.1) in (
+    let one = arg_goes c r outer env Out out x.name x.ty small away canon go (ap (λ (y : NextArg). y.name.text) l.0.1) (ap (λ (y : NextArg). y.ty.text) l.0.1) in (
       grown env (arg_name c) Out out,
       rw one.0 refl,
       record {
@@ -113,39 +122,39 @@ more_go close a n r k c [] out done env (x ∷ []) ce ke ne sa sr i canon ges go
         canon = canon_more (c + 1) r (a + n + 1) r (omega arith) (omega arith) (grown env (arg_name c) Out out) one.2;
       },
     )
-more_go close a n r k c (e ∷ es) out done env [] ce ke ne sa sr i canon ges go l = absurd l
-more_go close a n r k c (e ∷ es) out done env (x ∷ xs) ce ke ne sa sr i canon ges go l =
+more_go close a n r k c (e ∷ es) out done outer env [] ce ke ne sa sr i away canon ges go l = absurd l
+more_go close a n r k c (e ∷ es) out done outer env (x ∷ xs) ce ke ne sa sr i away canon ges go l =
     let small : Small c r = record { args = omega arith; results = sr } in
-    let one = arg_goes c r env (Input k) e x.name x.ty small canon ges.0 (ap (λ (y : NextArg). y.name.text) l.0.1) (ap (λ (y : NextArg). y.ty.text) l.0.1) in
+    let one = arg_goes c r outer env (Input k) e x.name x.ty small away canon ges.0 (ap (λ (y : NextArg). y.name.text) l.0.1) (ap (λ (y : NextArg). y.ty.text) l.0.1) in
     let here : HeldIn (local_name a n r) (grown env (arg_name c) (Input k) e) (Input k) e = ap (λ j. find (grown env (arg_name c) (Input k) e) (arg_name j)) (sym ce) ∙ one.1 in
     let held = inputs_last (local_name a n r) env (entry (arg_name c) (Local (Input k) e) ∷ []) done e i (subst (λ j. HeldIn (local_name a n r) (grown env (arg_name c) (Input k) e) (Input j) e) ke here) in
     let len : suc k ≡ length (done ++ e ∷ []) = omega (arith, length-append done (e ∷ [])) in
-    let more = more_go close a n r (suc k) (c + 1) es out (done ++ e ∷ []) (grown env (arg_name c) (Input k) e) xs (omega arith) len (omega arith) sa sr held one.2 ges.1 go l.1 in
+    let more = more_go close a n r (suc k) (c + 1) es out (done ++ e ∷ []) outer (grown env (arg_name c) (Input k) e) xs (omega arith) len (omega arith) sa sr held (canon_more c r (c + 1) r (omega arith) (omega arith) outer away) one.2 ges.1 go l.1 in
     (more.0, rw one.0 more.1, subst (λ (ds : List ElemTy). Block (local_name a n r) (a + n + 1) r ds out more.0) (append_assoc done (e ∷ []) es) more.2)
 
-block_goes : (a r : ℕ) (ins : List ElemTy) (out : ElemTy) (env : List Entry) (at : ℕ) → a + length ins < 2 ^ 64 → r < 2 ^ 64 → AreCanon a r env → AllByRecursion Good ins → Good out
-    → (env2 : List Entry) × (block_args env (locals_of 0 ins out) ((block_args_at a ins out).tree at) ≡ Ok env2) × Block (local_name a (length ins) r) (a + length ins + 1) r ins out env2
-block_goes a r [] out env at sa sr canon gs go =
+block_goes : (a r : ℕ) (ins : List ElemTy) (out : ElemTy) (outer : List Entry) (at : ℕ) → a + length ins < 2 ^ 64 → r < 2 ^ 64 → AreCanon a r outer → AllByRecursion Good ins → Good out
+    → (env2 : List Entry) × (block_args outer [] (locals_of 0 ins out) ((block_args_at a ins out).tree at) ≡ Ok env2) × Block (local_name a (length ins) r) (a + length ins + 1) r ins out env2
+block_goes a r [] out outer at sa sr away gs go =
     let small : Small a r = record { args = omega arith; results = sr } in
     let z : a + 0 ≡ a = omega arith in
-    let one = arg_goes a r env Out out ((block_args_at a [] out).tree at).first.name ((block_args_at a [] out).tree at).first.ty small canon go refl refl in (
-      grown env (arg_name a) Out out,
+    let one = arg_goes a r outer [] Out out ((block_args_at a [] out).tree at).first.name ((block_args_at a [] out).tree at).first.ty small away tt go refl refl in (
+      grown [] (arg_name a) Out out,
       rw one.0 refl,
       record {
         inputs = λ j e g. absurd (cc g);
-        output = ap (λ j. find (grown env (arg_name a) Out out) (arg_name j)) z ∙ one.1;
-        canon = canon_more (a + 1) r (a + 0 + 1) r (omega arith) (omega arith) (grown env (arg_name a) Out out) one.2;
+        output = ap (λ j. find (grown [] (arg_name a) Out out) (arg_name j)) z ∙ one.1;
+        canon = canon_more (a + 1) r (a + 0 + 1) r (omega arith) (omega arith) (grown [] (arg_name a) Out out) one.2;
       },
     )
-block_goes a r (e ∷ es) out env at sa sr canon gs go =
+block_goes a r (e ∷ es) out outer at sa sr away gs go =
     let t = (block_args_at a (e ∷ es) out).tree at in
     let small : Small a r = record { args = omega arith; results = sr } in
     let z : a + 0 ≡ a = omega arith in
     let n = length (e ∷ es) in
-    let one = arg_goes a r env (Input 0) e t.first.name t.first.ty small canon gs.0 refl refl in
-    let here : HeldIn (local_name a (length (e ∷ es)) r) (grown env (arg_name a) (Input 0) e) (Input 0) e = ap (λ j. find (grown env (arg_name a) (Input 0) e) (arg_name j)) z ∙ one.1 in
-    let held = inputs_last (local_name a (length (e ∷ es)) r) env (entry (arg_name a) (Local (Input 0) e) ∷ []) [] e (λ j f g. absurd (cc g)) here in
-    let more = more_go t.close a (length (e ∷ es)) r 1 (a + 1) es out (e ∷ []) (grown env (arg_name a) (Input 0) e) t.more refl refl (omega arith) sa sr held one.2 gs.1 go (each_laid (next_args_at (a + 1) es out) _) in
+    let one = arg_goes a r outer [] (Input 0) e t.first.name t.first.ty small away tt gs.0 refl refl in
+    let here : HeldIn (local_name a (length (e ∷ es)) r) (grown [] (arg_name a) (Input 0) e) (Input 0) e = ap (λ j. find (grown [] (arg_name a) (Input 0) e) (arg_name j)) z ∙ one.1 in
+    let held = inputs_last (local_name a (length (e ∷ es)) r) [] (entry (arg_name a) (Local (Input 0) e) ∷ []) [] e (λ j f g. absurd (cc g)) here in
+    let more = more_go t.close a (length (e ∷ es)) r 1 (a + 1) es out (e ∷ []) outer (grown [] (arg_name a) (Input 0) e) t.more refl refl (omega arith) sa sr held (canon_more a r (a + 1) r (omega arith) (omega arith) outer away) one.2 gs.1 go (each_laid (next_args_at (a + 1) es out) _) in
     (more.0, rw one.0 more.1, more.2)
 
 -- ---- steps
@@ -180,47 +189,173 @@ locals_last name env more ins out earlier s h n g (StepArg j) e k =
     let m = mapped (λ (s : PayloadStep). s.ty) (slice_get (earlier ++ s ∷ []) j) e k in
     step_if name env more ins out earlier s m.0 e j h n g (get_last earlier s m.0 j m.1) m.2
 
-step_goes : (name : Arg → Given) (env : List Entry) (ins : List ElemTy) (out : ElemTy) (earlier : List PayloadStep) (k at : ℕ) (ty : ElemTy) (o : StepOp) → LocalsHeld name env ins out earlier → find env (given_text (name (StepArg k))) ≡ None → nat_lt k 1024 ≡ true
-    → op_fits (arg_type ins out earlier) ty o ≡ true → IsSum o → (step_of env k ((step_at name k ty o).tree at) ≡ Ok (record { ty = ty; op = o })) × Good ty
-step_goes name env ins out earlier k at ty (Binary Addi x y) h none lt f s =
-    let p = and_parts (has_type (arg_type ins out earlier x) ty) (has_type (arg_type ins out earlier y) ty) f in
-    let a = h x ty (found_type (arg_type ins out earlier x) ty p.0) in
-    let b = h y ty (found_type (arg_type ins out earlier y) ty p.1) in
-    (rw (none, lt, a.0, b.0, a.1) refl, a.1)
-step_goes name env ins out earlier k at ty o h none lt f s = absurd s
+-- ---- operations
 
-step_name : (name : Arg → Given) (k : ℕ) (ty : ElemTy) (o : StepOp) (at : ℕ) → IsSum o → ((step_at name k ty o).tree at).result.text ≡ given_text (name (StepArg k))
-step_name name k ty (Binary Addi x y) at s = refl
-step_name name k ty o at s = absurd s
+binary_read : (op : BinOp) → named_binary (binary_text op) ≡ Some op
+unfolding named_binary
+binary_read binaries.Addi = refl
+binary_read binaries.Subi = refl
+binary_read binaries.Muli = refl
+binary_read binaries.Divsi = refl
+binary_read binaries.Divui = refl
+binary_read binaries.Remsi = refl
+binary_read binaries.Remui = refl
+binary_read binaries.Andi = refl
+binary_read binaries.Ori = refl
+binary_read binaries.Xori = refl
+binary_read binaries.Shli = refl
+binary_read binaries.Shrsi = refl
+binary_read binaries.Shrui = refl
+binary_read binaries.Maxsi = refl
+binary_read binaries.Maxui = refl
+binary_read binaries.Minsi = refl
+binary_read binaries.Minui = refl
 
-steps_go : (a n r b k c : ℕ) (ins : List ElemTy) (out : ElemTy) (ss earlier : List PayloadStep) (env : List Entry) (xs : List Step)
-    → c ≡ r + k → k ≡ length earlier → b < 2 ^ 64 → c + length ss < 2 ^ 64 → k + length ss ≤ 1024 → AreCanon b c env → LocalsHeld (local_name a n r) env ins out earlier → steps_fit ins out ss earlier ≡ true → AllByRecursion (λ s. IsSum s.op) ss → Laid (steps_at (local_name a n r) k ss) xs
-    → (env2 : List Entry) × (steps_of env k xs ≡ Ok (env2, ss)) × LocalsHeld (local_name a n r) env2 ins out (earlier ++ ss)
-steps_go a n r b k c ins out [] earlier env [] ce ke sb sc le canon h f s l = (env, refl, subst (λ (xs : List PayloadStep). LocalsHeld (local_name a n r) env ins out xs) (sym (append-nil earlier)) h)
-steps_go a n r b k c ins out [] earlier env (x ∷ xs) ce ke sb sc le canon h f s l = absurd l
-steps_go a n r b k c ins out (t ∷ ss) earlier env [] ce ke sb sc le canon h f s l = absurd l
-steps_go a n r b k c ins out (t ∷ ss) earlier env (x ∷ xs) ce ke sb sc le canon h f s l =
+predicate_read : (k : Predicate) → named_predicate (predicate_text k) ≡ Some k
+unfolding named_predicate
+predicate_read predicates.Eq = refl
+predicate_read predicates.Ne = refl
+predicate_read predicates.Slt = refl
+predicate_read predicates.Sle = refl
+predicate_read predicates.Sgt = refl
+predicate_read predicates.Sge = refl
+predicate_read predicates.Ult = refl
+predicate_read predicates.Ule = refl
+predicate_read predicates.Ugt = refl
+predicate_read predicates.Uge = refl
+
+cast_read : (k : Cast) → named_cast (cast_text k) ≡ Some k
+unfolding named_cast
+cast_read changes.SignExtend = refl
+cast_read changes.ZeroExtend = refl
+cast_read changes.Truncate = refl
+
+abbrev inside : List Entry → List PayloadStep → Inside
+inside names steps = record { names = names; steps = steps }
+
+-- what an argument names is found under its name, with the text of its type
+abbrev ArgsHeld : (Arg → Given) → (Arg → List ℕ) → List Entry → (Arg → Option ElemTy) → Type 0
+ArgsHeld name type names at = (x : Arg) (e : ElemTy) → at x ≡ Some e → HeldIn name names x e × Good e × (type x ≡ elem_text e)
+
+from_integer : (f t : ElemTy) → is_narrower f t ≡ true → is_integer f ≡ true
+from_integer (Int w) t h = refl
+from_integer Index t h = absurd (cc h)
+
+to_integer : (f t : ElemTy) → is_narrower t f ≡ true → is_integer f ≡ true
+to_integer (Int w) t h = refl
+to_integer Index (Int w) h = absurd (cc h)
+to_integer Index Index h = absurd (cc h)
+
+compare_goes : (outer names : List Entry) (steps : List PayloadStep) (name : Arg → Given) (type : Arg → List ℕ) (k : Predicate) (x y : Arg) (e t : ElemTy) (place : ℕ) → HeldIn name names x t → HeldIn name names y t → Good t → type x ≡ elem_text t → Int 1 ≡ e
+    → operation_of outer (inside names steps) ((operation_at name type e (ops.Compare k x y)).tree place) ≡ Ok (inside names steps, record { ty = e; op = ops.Compare k x y })
+compare_goes outer names steps name type k x y e t place hx hy g ty one =
+    rw (predicate_read k, hx, hy, ty, g) (ap (λ u. Ok (inside names steps, record { ty = u; op = ops.Compare k x y })) one)
+
+operation_goes : (outer names : List Entry) (steps : List PayloadStep) (name : Arg → Given) (type : Arg → List ℕ) (at : Arg → Option ElemTy) (e : ElemTy) (o : StepOp) (place : ℕ) → ArgsHeld name type names at → op_fits at e o ≡ true → is_written e ≡ true → IsPrintableOp e o
+    → operation_of outer (inside names steps) ((operation_at name type e o).tree place) ≡ Ok (inside names steps, record { ty = e; op = o })
+operation_goes outer names steps name type at e (ops.Const v) place k h t p = rw (literal_read e v _ t h p) refl
+operation_goes outer names steps name type at e (ops.Index j) place k h t p =
+    let index : e ≡ Index = same_elem e Index h in
+    let few = le-leb j 1048576 p in
+    let value = decimal_value j (omega (arith, p)) in
+    rw (value, few) (ap (λ u. Ok (inside names steps, record { ty = u; op = ops.Index j })) (sym index))
+operation_goes outer names steps name type at e (ops.Captured j) place k h t p = absurd p
+operation_goes outer names steps name type at e (ops.Linear c ts) place k h t p = absurd p
+operation_goes outer names steps name type at e (ops.Binary op x y) place k h t p =
+    let q = and_parts (has_type (at x) e) (has_type (at y) e) h in
+    let a = k x e (found_type (at x) e q.0) in
+    let b = k y e (found_type (at y) e q.1) in
+    rw (binary_read op, a.0, b.0, a.1) refl
+operation_goes outer names steps name type at e (ops.Compare c x y) place k h t p =
+    let q = and_parts (is_elem e (Int 1)) (have_one_type (at x) (at y)) h in
+    let f = one_found (at x) (at y) q.1 in
+    let a = k x f.0 f.1 in
+    let b = k y f.0 f.2 in
+    compare_goes outer names steps name type c x y e f.0 place a.0 b.0 a.1 a.2 (sym (same_elem e (Int 1) q.0))
+operation_goes outer names steps name type at e (ops.Select c x y) place k h t p =
+    let q = and_parts (has_type (at c) (Int 1) && has_type (at x) e) (has_type (at y) e) h in
+    let u = and_parts (has_type (at c) (Int 1)) (has_type (at x) e) q.0 in
+    let z = k c (Int 1) (found_type (at c) (Int 1) u.0) in
+    let a = k x e (found_type (at x) e u.1) in
+    let b = k y e (found_type (at y) e q.1) in
+    rw (z.0, a.0, b.0, a.1) refl
+operation_goes outer names steps name type at e (ops.SignExtend x) place k h t p =
+    let f = widening_found (at x) e h in
+    let a = k x f.0 f.1 in
+    let i = from_integer f.0 e f.2 in
+    rw (cast_read changes.SignExtend, a.0, a.2, a.1, i, good_read e (elem_good e t), f.2) refl
+operation_goes outer names steps name type at e (ops.ZeroExtend x) place k h t p =
+    let f = widening_found (at x) e h in
+    let a = k x f.0 f.1 in
+    let i = from_integer f.0 e f.2 in
+    rw (cast_read changes.ZeroExtend, a.0, a.2, a.1, i, good_read e (elem_good e t), f.2) refl
+operation_goes outer names steps name type at e (ops.Truncate x) place k h t p =
+    let f = narrowing_found (at x) e h in
+    let a = k x f.0 f.1 in
+    let i = to_integer f.0 e f.2 in
+    rw (cast_read changes.Truncate, a.0, a.2, a.1, i, good_read e (elem_good e t), f.2) refl
+operation_goes outer names steps name type at e (ops.IndexCast x) place k h t p =
+    let f = cast_found (at x) e h in
+    let a = k x f.0 f.1 in
+    rw (a.0, a.2, a.1, good_read e (elem_good e t), f.2) refl
+
+-- ---- steps
+
+abbrev types_of : List ElemTy → ElemTy → List PayloadStep → Arg → List ℕ
+types_of ins out all x = elem_or (arg_type ins out all x)
+
+step_goes : (outer env : List Entry) (earlier : List PayloadStep) (name : Arg → Given) (type : Arg → List ℕ) (k : ℕ) (t : PayloadStep) (x : Step) (place : ℕ) → x ≡ (step_at name type k t.ty t.op).tree place
+    → find outer (given_text (name (StepArg k))) ≡ None → find env (given_text (name (StepArg k))) ≡ None → nat_lt (length earlier) 1024 ≡ true → ((at : ℕ) → operation_of outer (inside env earlier) ((operation_at name type t.ty t.op).tree at) ≡ Ok (inside env earlier, t))
+    → step_of outer (inside env earlier) x ≡ Ok (with_step (inside env earlier) (given_text (name (StepArg k))) t)
+step_goes outer env earlier name type k t x place e far none lt op = rw (e, far, none, lt, op _) refl
+
+steps_go : (a n r b k c : ℕ) (ins : List ElemTy) (out : ElemTy) (all ss earlier : List PayloadStep) (outer env : List Entry) (xs : List Step)
+    → all ≡ earlier ++ ss → c ≡ r + k → k ≡ length earlier → b < 2 ^ 64 → c + length ss < 2 ^ 64 → k + length ss ≤ 1024 → AreCanon b c outer → AreCanon b c env → LocalsHeld (local_name a n r) env ins out earlier → steps_fit ins out ss earlier ≡ true → AllByRecursion IsPrintableStep ss
+    → Laid (steps_at (local_name a n r) (types_of ins out all) k ss) xs → (env2 : List Entry) × (steps_of outer (inside env earlier) xs ≡ Ok (inside env2 (earlier ++ ss))) × LocalsHeld (local_name a n r) env2 ins out (earlier ++ ss)
+steps_go a n r b k c ins out all [] earlier outer env [] ends ce ke sb sc le away canon h f s l =
+    let e = sym (append-nil earlier) in
+    (env, ap (λ (ps : List PayloadStep). Ok (inside env ps)) e, subst (λ (ps : List PayloadStep). LocalsHeld (local_name a n r) env ins out ps) e h)
+steps_go a n r b k c ins out all [] earlier outer env (x ∷ xs) ends ce ke sb sc le away canon h f s l = absurd l
+steps_go a n r b k c ins out all (t ∷ ss) earlier outer env [] ends ce ke sb sc le away canon h f s l = absurd l
+steps_go a n r b k c ins out all (t ∷ ss) earlier outer env (x ∷ xs) ends ce ke sb sc le away canon h f s l =
     let small : Small b c = record { args = sb; results = omega arith } in
     let e : result_name (r + k) ≡ result_name c = ap result_name (sym ce) in
     let none : find env (result_name (r + k)) ≡ None = ap (find env) e ∙ fresh_result b c env small canon in
+    let far : find outer (result_name (r + k)) ≡ None = ap (find outer) e ∙ fresh_result b c outer small away in
     let p = and_parts (op_fits (arg_type ins out earlier) t.ty t.op) (steps_fit ins out ss (earlier ++ t ∷ [])) f in
-    let one = step_goes (local_name a n r) env ins out earlier k (l.0.0 + 7) t.ty t.op h none (lt-ltb k 1024 (omega arith)) p.0 s.0 in
-    let held = find_new env (result_name (r + k)) (Local (StepArg k) t.ty) none in
-    let more_held = locals_last (local_name a n r) env (entry (result_name (r + k)) (Local (StepArg k) t.ty) ∷ []) ins out earlier t h (subst (λ i. HeldIn (local_name a n r) (grown env (result_name (r + k)) (StepArg k) t.ty) (StepArg i) t.ty) ke held) one.1 in
-    let canon2 = all_last (λ e. IsCanon b (suc c) e.name) env (entry (result_name (r + k)) (Local (StepArg k) t.ty)) (canon_more b c b (suc c) (omega arith) (omega arith) env canon) (inr (c, omega arith, e)) in
+    let typed : ArgsHeld (local_name a n r) (types_of ins out all) env (arg_type ins out earlier) = λ y u q. let o = h y u q in (o.0, o.1, arg_text ins out earlier (t ∷ ss) all y u ends q) in
+    let good = elem_good t.ty s.0.ty in
+    let lt : nat_lt (length earlier) 1024 ≡ true = lt-ltb (length earlier) 1024 (omega arith) in
+    let op = λ (place : ℕ). operation_goes outer env earlier (local_name a n r) (types_of ins out all) (arg_type ins out earlier) t.ty t.op place typed p.0 s.0.ty s.0.op in
+    let one = step_goes outer env earlier (local_name a n r) (types_of ins out all) k t x (l.0.0 + 7) l.0.1 far none lt op in
+    let held = find_new env (result_name (r + k)) (Local (StepArg (length earlier)) t.ty) none in
+    let here : HeldIn (local_name a n r) (grown env (result_name (r + k)) (StepArg (length earlier)) t.ty) (StepArg (length earlier)) t.ty = ap (λ j. find (grown env (result_name (r + k)) (StepArg (length earlier)) t.ty) (result_name (r + j))) (sym ke) ∙ held in
+    let more_held = locals_last (local_name a n r) env (entry (result_name (r + k)) (Local (StepArg (length earlier)) t.ty) ∷ []) ins out earlier t h here good in
+    let canon2 = all_last (λ e. IsCanon b (suc c) e.name) env (entry (result_name (r + k)) (Local (StepArg (length earlier)) t.ty)) (canon_more b c b (suc c) (omega arith) (omega arith) env canon) (inr (c, omega arith, e)) in
+    let away2 = canon_more b c b (suc c) (omega arith) (omega arith) outer away in
     let len : suc k ≡ length (earlier ++ t ∷ []) = omega (arith, length-append earlier (t ∷ [])) in
     let z : k + 1 ≡ suc k = omega arith in
-    let more = steps_go a n r b (suc k) (suc c) ins out ss (earlier ++ t ∷ []) (grown env (result_name (r + k)) (StepArg k) t.ty) xs (omega arith) len sb (omega arith) (omega arith) canon2 more_held p.1 s.1 (subst (λ j. Laid (steps_at (local_name a n r) j ss) xs) z l.1) in
-    (more.0, rw (l.0.1, one.0, step_name (local_name a n r) k t.ty t.op (l.0.0 + 7) s.0, more.1) refl, subst (λ (ts : List PayloadStep). LocalsHeld (local_name a n r) more.0 ins out ts) (append_assoc earlier (t ∷ []) ss) more.2)
+    let longer : all ≡ (earlier ++ t ∷ []) ++ ss = ends ∙ sym (append_assoc earlier (t ∷ []) ss) in
+    let more = steps_go a n r b (suc k) (suc c) ins out all ss (earlier ++ t ∷ []) outer (grown env (result_name (r + k)) (StepArg (length earlier)) t.ty) xs longer (omega arith) len sb (omega arith) (omega arith) away2 canon2 more_held p.1 s.1
+    (subst (λ j. Laid (steps_at (local_name a n r) (types_of ins out all) j ss) xs) z l.1)
+    in
+    let same = append_assoc earlier (t ∷ []) ss in (
+      more.0,
+      ap (λ (v : Answer Inside Fault). and_then v (λ n. steps_of outer n xs)) one ∙ more.1 ∙ ap (λ (ps : List PayloadStep). Ok (inside more.0 ps)) same,
+      subst (λ (ts : List PayloadStep). LocalsHeld (local_name a n r) more.0 ins out ts) same more.2,
+    )
 
 -- ---- the region
 
-pub region_found : (env : List Entry) (a r : ℕ) (p : PayloadShape) → AreCanon a r env → a + length p.ins + 1 < 2 ^ 64 → r + length p.steps < 2 ^ 64 → length p.steps ≤ 1024 → AllByRecursion Good p.ins → Good p.out → payload_fits p ≡ true → AllByRecursion (λ s. IsSum s.op) p.steps
-    → (at : ℕ) → payload_of env p.ins p.out ((region_at a r p).tree at) ≡ Ok p
-region_found env a r p canon sa sr le gs go f s at =
+pub region_found : (outer : List Entry) (a r : ℕ) (p : PayloadShape) → AreCanon a r outer → a + length p.ins + 1 < 2 ^ 64 → r + length p.steps < 2 ^ 64 → length p.steps ≤ 1024 → AllByRecursion Good p.ins → Good p.out → payload_fits p ≡ true → AllByRecursion IsPrintableStep p.steps
+    → (at : ℕ) → payload_of outer p.ins p.out ((region_at a r p).tree at) ≡ Ok p
+region_found outer a r p canon sa sr le gs go f s at =
     let n = length p.ins in
     let q = and_parts (steps_fit p.ins p.out p.steps []) (has_type (arg_type p.ins p.out p.steps p.yielded) p.out) f in
-    let b = block_goes a r p.ins p.out env (at + 4 + 1) (omega arith) (omega arith) canon gs go in
-    let st = steps_go a (length p.ins) r (a + length p.ins + 1) 0 r p.ins p.out p.steps [] b.0 ((region_at a r p).tree at).steps (omega arith) refl sa sr (omega arith) b.2.canon (locals_first (local_name a (length p.ins) r) (a + length p.ins + 1) r b.0 p.ins p.out b.2 gs go) q.0 s (each_laid (steps_at (local_name a (length p.ins) r) 0 p.steps) _) in
+    let b = block_goes a r p.ins p.out outer (at + 4 + 1) (omega arith) (omega arith) canon gs go in
+    let wide = canon_more a r (a + length p.ins + 1) r (omega arith) (omega arith) outer canon in
+    let st = steps_go a (length p.ins) r (a + length p.ins + 1) 0 r p.ins p.out p.steps p.steps [] outer b.0 ((region_at a r p).tree at).steps refl (omega arith) refl sa sr (omega arith) wide b.2.canon
+    (locals_first (local_name a (length p.ins) r) (a + length p.ins + 1) r b.0 p.ins p.out b.2 gs go) q.0 s (each_laid (steps_at (local_name a (length p.ins) r) (type_in p) 0 p.steps) _)
+    in
     let y = st.2 p.yielded p.out (found_type (arg_type p.ins p.out p.steps p.yielded) p.out q.1) in
     rw (b.1, st.1, y.0, go) refl

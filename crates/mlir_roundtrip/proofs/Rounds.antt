@@ -1,416 +1,351 @@
--- The canonical tree of a module stands for the module with the numbers of its text.
-use Rattle.std.proofs.Common.{◌≡◌, ◌<◌, ◌≤◌, ◌⊎◌, inl, inr, subst, ℕ, ◌+◌, suc, Bool, true, false, cond, List, [], ◌∷◌, ◌++◌, map, length, Option, Some, None, Result as Answer, Ok, Err, refl, sym, ap, ◌∙◌, length-append, arith, codes, nat_eq, nat_le, nat_lt}
+-- The canonical tree of an operation stands for the operation with the numbers of its text. The values of its function begin at `base`.
+use Rattle.std.proofs.Common.{◌≡◌, ◌<◌, ◌≤◌, inr, subst, ℕ, ◌+◌, suc, Bool, true, false, cond, List, [], ◌∷◌, ◌++◌, map, length, Option, Some, None, Result as Answer, Ok, refl, sym, ap, ◌∙◌, length-append, arith, nat_eq, nat_lt}
 use Rattle.std.specs.Prelude.{unwrap_or}
-use Rattle.std.specs.List.{AllByRecursion, list_all}
-use Rattle.std.proofs.lemmas.Bool.{and_parts, and_from, lt-ltb, le-leb, lt-leb, ne_eqb, ltb-false}
+use Rattle.std.specs.List.{AllByRecursion}
+use Rattle.std.proofs.lemmas.Bool.{le-leb, lt-ltb}
 use Rattle.payload_ops.specs.declared.kinds.ElemTy.{ElemTy}
+use Rattle.payload_ops.specs.Shape.{PayloadShape}
 use Rattle.affine_maps.specs.Shape.{MapShape}
 use Rattle.mlir_ir.specs.declared.tree.Ty.{Ty}
 use Rattle.mlir_ir.specs.declared.tree.ValueId.{ValueId}
+use Rattle.mlir_ir.specs.declared.tree.Iter.{Iter}
+use Rattle.mlir_ir.specs.declared.tree.Iter.TheVariants.{Parallel, Reduction}
 use Rattle.mlir_ir.specs.declared.tree.OpKind.{OpKind}
 use Rattle.mlir_ir.specs.declared.tree.OpKind.TheVariants as kinds
-use Rattle.mlir_ir.specs.declared.tree.Op.{Op}
-use Rattle.mlir_ir.specs.declared.tree.Module.{Module}
-use Rattle.mlir_ir.specs.Shape.{FuncShape}
 use Rattle.text_format.specs.Token.{TokenShape}
-use Rattle.text_format.specs.Bytes.{is_letter, is_word_byte}
-use Rattle.text_format.specs.Types.{is_word}
 use Rattle.text_format.specs.Pieces.{bytes_of}
-use Rattle.mlir_syntax.specs.declared.tree.AliasUse.{AliasUse}
-use Rattle.mlir_syntax.specs.declared.tree.NextInput.{NextInput}
-use Rattle.mlir_syntax.specs.declared.tree.NextType.{NextType}
-use Rattle.mlir_syntax.specs.declared.tree.Param.{Param}
-use Rattle.mlir_read.specs.declared.names.Meaning.TheVariants.{Held}
+use Rattle.mlir_syntax.specs.declared.tree.literals.SignedNumber.{SignedNumber}
+use Rattle.mlir_syntax.specs.declared.tree.generics.IteratorType.{IteratorType}
+use Rattle.mlir_syntax.specs.declared.tree.generics.NextInput.{NextInput}
+use Rattle.mlir_syntax.specs.declared.tree.generics.NextType.{NextType}
+use Rattle.mlir_syntax.specs.declared.tree.generics.Generic.{Generic}
+use Rattle.mlir_read.specs.declared.names.Meaning.{Meaning}
 use Rattle.mlir_read.specs.declared.names.Scope.{Scope}
-use Rattle.mlir_read.specs.declared.fault.Fault.{Fault}
-use Rattle.mlir_read.specs.Payload.{payload_of}
+use Rattle.mlir_lex.specs.declared.fault.Fault.{Fault}
 use Rattle.mlir_read.specs.Names.{Entry, entry, find}
-use Rattle.mlir_read.specs.Chain.{and_then, each}
-use Rattle.mlir_read.specs.Types.{elem_of, type_at}
-use Rattle.mlir_read.specs.Scope.{typed_as, params_of}
-use Rattle.mlir_read.specs.Resolve.{map_of, operand_of, more_inputs, more_types, operands_of, operation_of, statement_of, statements_of, is_ascii, room, word_in, returned_of, function_of, resolve}
-use Rattle.mlir_print.specs.declared.names.Given.TheVariants.{Argument, Result}
-use Rattle.mlir_print.specs.Names.{Names, Row, look, spot, or_before, given_text, name_in, type_in, row_of, nothing, with_argument}
+use Rattle.mlir_lex.specs.Chain.{and_then, each}
+use Rattle.mlir_read.specs.Types.{type_at, elem_of}
+use Rattle.mlir_read.specs.Scope.{held, value, typed_as, value_id, type_of}
+use Rattle.mlir_read.specs.Payload.{payload_of}
+use Rattle.mlir_read.specs.Constants.{result_meaning}
+use Rattle.mlir_read.specs.Maps.{AliasShape, map_of}
+use Rattle.mlir_read.specs.Generics.{iterator_of, iterators_from, operand_of, more_inputs, more_types, typed_inputs, typed_output, operands_of, generic_of}
+use Rattle.mlir_read.specs.Structured.{axis_of, typed_id, output_of, factors_of, moved_of}
+use Rattle.mlir_read.specs.Operations.{kind_of, statement_of}
+use Rattle.mlir_print.specs.declared.names.Given.TheVariants.{Result}
+use Rattle.mlir_print.specs.Names.{Names, Row, look, spot, given_text, name_in, name_or, type_in, type_or, row_of}
 use Rattle.mlir_print.specs.Writers.{Writer, commas, after_comma}
-use Rattle.mlir_print.specs.Maps.{use_at, alias_of, maps_used, with_ops, with_funcs}
-use Rattle.mlir_print.specs.Payloads.{region_at}
-use Rattle.mlir_print.specs.Operations.{next_input_at, next_type_at, operands_at, generic_at, operation_at, line_at, last_at, names_after, inner_args, inner_results, next, Ending}
-use Rattle.mlir_print.specs.Canonical.{Body, params_at, after_params, names_in, body_at, results_at, function_at, text_with, text_at}
-use Rattle.mlir_print.specs.Renumbered.{number_in, kind_renumbered, results_renumbered, op_renumbered, ops_renumbered, func_renumbered, funcs_renumbered, renumbered}
-use Rattle.mlir_roundtrip.specs.Printable.{IsRowType, IsDefined, row_or, elem_in, IsPrintableKind, IsPrintableResult, IsPrintableReturn, IsPrintableResultType, ArePrintableOps, IsPrintableFunc, ArePrintable, IsPrintable}
-use Rattle.mlir_roundtrip.proofs.Envs.{arg_name, result_name, find_more, find_new, IsCanon, AreCanon, Small, fresh_arg, fresh_result}
-use Rattle.mlir_roundtrip.proofs.Rows.{look_last, Bound, bound_in, bound_next, inner_few}
-use Rattle.mlir_roundtrip.proofs.Aliases.{line_map, AreLines, UseLines, UseNone, aliases_in, line_number}
-use Rattle.mlir_roundtrip.proofs.Spaced.{use_lines}
-use Rattle.mlir_roundtrip.proofs.Readable.{Readable, readable}
-use Rattle.mlir_roundtrip.proofs.Regions.{Laid, each_laid, all_last, canon_more, Good, region_found}
+use Rattle.mlir_print.specs.Maps.{use_at, maps_used}
+use Rattle.mlir_print.specs.Generics.{iterator_at, next_input_at, next_type_at, inputs_at, output_at, operands_at, generic_at}
+use Rattle.mlir_print.specs.Structured.{fill_at, factors_at, moved_at, axis_at, transpose_at, broadcast_at}
+use Rattle.mlir_print.specs.Operations.{operation_at, line_at, names_after, inner_args, inner_results}
+use Rattle.mlir_print.specs.Renumbered.{number_in, kind_renumbered, results_renumbered}
+use Rattle.mlir_roundtrip.specs.Printable.{IsDefined, row_or, row_in, elem_in, IsPrintableMove, IsPrintableKind, IsPrintableLine}
+use Rattle.mlir_roundtrip.proofs.Envs.{result_name, find_more, find_new, IsCanon, AreCanon, Small, fresh_result}
+use Rattle.mlir_roundtrip.proofs.Spots.{spot_last}
+use Rattle.mlir_roundtrip.proofs.Rows.{look_last, row_there, tensor_value, constant_type, Bound, bound_next, inner_few}
+use Rattle.mlir_roundtrip.proofs.Readable.{readable}
+use Rattle.mlir_roundtrip.proofs.Usable.{Usable, usable}
+use Rattle.mlir_roundtrip.proofs.Values.{meaning_held}
+use Rattle.mlir_roundtrip.proofs.Numbers.{Good, decimal_value}
+use Rattle.mlir_roundtrip.proofs.MapUses.{MapsRead}
+use Rattle.mlir_roundtrip.proofs.ConstantsFound.{constant_found}
+use Rattle.mlir_roundtrip.proofs.Regions.{Laid, each_laid, all_last, canon_more, region_found}
 
--- ---- numbers
-
-abbrev number : List Row → ℕ → ℕ
-number rows v = unwrap_or (spot 0 rows v) 0
-
-or_if : (b : Bool) (n : ℕ) (o p : Option ℕ) → or_before (cond b (Some n) o) p ≡ cond b (Some n) (or_before o p)
-or_if true n o p = refl
-or_if false n o p = refl
-
-pub spot_last : (k : ℕ) (rows : List Row) (r : Row) (v : ℕ) → spot k (rows ++ r ∷ []) v ≡ cond (nat_eq r.value v) (Some (k + length rows)) (spot k rows v)
-spot_last k [] r v = let z : k ≡ k + 0 = omega arith in ap (λ j. cond (nat_eq r.value v) (Some j) None) z
-spot_last k (x ∷ rows) r v =
-    let z : suc k + length rows ≡ k + suc (length rows) = omega arith in
-    ap (λ o. or_before o (cond (nat_eq x.value v) (Some k) None)) (spot_last (suc k) rows r v ∙ ap (λ j. cond (nat_eq r.value v) (Some j) (spot (suc k) rows v)) z)
-    ∙ or_if (nat_eq r.value v) (k + suc (length rows)) (spot (suc k) rows v) (cond (nat_eq x.value v) (Some k) None)
-
--- ---- where a text stands
-
--- each value that was defined is found under its name
-abbrev Agrees : List Row → List Entry → Type 0
-Agrees rows env = (v : ℕ) (x : Row) → look rows v ≡ Some x → (find env (given_text x.name) ≡ Some (Held (number rows v) x.ty)) × Readable x.ty
-
-pub record Standing (n : Names) (env : List Entry) : Type 0 where
-  pub agrees : Agrees n.rows env
-  pub canon : AreCanon n.args n.results env
-
-agree_if : (b : Bool) (rows : List Row) (r x : Row) (env : List Entry) (v : ℕ) → find env (given_text r.name) ≡ None → Readable r.ty → ((look rows v ≡ Some x) → (find env (given_text x.name) ≡ Some (Held (number rows v) x.ty)) × Readable x.ty)
-    → cond b (Some r) (look rows v) ≡ Some x → (find (env ++ entry (given_text r.name) (Held (length rows) r.ty) ∷ []) (given_text x.name) ≡ Some (Held (unwrap_or (cond b (Some (0 + length rows)) (spot 0 rows v)) 0) x.ty)) × Readable x.ty
-agree_if true rows r x env v none rd f h =
-    let e : r ≡ x = cc h in
-    let z : length rows ≡ 0 + length rows = omega arith in
-    subst (λ y. (find (env ++ entry (given_text r.name) (Held (length rows) r.ty) ∷ []) (given_text y.name) ≡ Some (Held (0 + length rows) y.ty)) × Readable y.ty) e
-    (find_new env (given_text r.name) (Held (length rows) r.ty) none ∙ ap (λ j. Some (Held j r.ty)) z, rd)
-agree_if false rows r x env v none rd f h = let o = f h in (find_more env (entry (given_text r.name) (Held (length rows) r.ty) ∷ []) (given_text x.name) (Held (number rows v) x.ty) o.0, o.1)
-
-agrees_more : (rows : List Row) (env : List Entry) (r : Row) → Agrees rows env → find env (given_text r.name) ≡ None → Readable r.ty → Agrees (rows ++ r ∷ []) (env ++ entry (given_text r.name) (Held (length rows) r.ty) ∷ [])
-agrees_more rows env r ag none rd v x h =
-    let o = agree_if (nat_eq r.value v) rows r x env v none rd (λ k. ag v x k) (sym (look_last rows r v) ∙ h) in
-    (o.0 ∙ ap (λ s. Some (Held (unwrap_or s 0) x.ty)) (sym (spot_last 0 rows r v)), o.1)
-
--- ---- operands
-
-record Known (rows : List Row) (env : List Entry) (v : ValueId) : Type 0 where
-  row : Row
-  there : look rows v.0 ≡ Some row
-  found : find env (given_text row.name) ≡ Some (Held (number rows v.0) row.ty)
-  readable : Readable row.ty
-
-known : (rows : List Row) (env : List Entry) → Agrees rows env → (v : ValueId) → IsDefined rows v → Known rows env v
-known rows env ag v d = let a = ag v.0 d.0 d.1 in record { row = d.0; there = d.1; found = a.0; readable = a.1 }
-
-abbrev operand : List Row → ValueId → ValueId × ElemTy
-operand rows v = (number_in 0 rows v, elem_in rows v)
-
-operand_found : (rows : List Row) (env : List Entry) (v : ValueId) → Known rows env v → (k : ℕ) → nat_lt k 64 ≡ true → (t : TokenShape) → t.text ≡ name_in rows v → operand_of env k t ≡ Ok (operand rows v)
-operand_found rows env v k j lt t e = rw (e, k.there, k.found, lt) refl
-
-typed_found : (rows : List Row) (env : List Entry) (v : ValueId) → Known rows env v → (name ty : TokenShape) → name.text ≡ name_in rows v → ty.text ≡ type_in rows v → typed_as env name ty ≡ Ok tt
-typed_found rows env v k name ty e f = rw (e, f, k.there, k.found, k.readable.same) refl
-
-more_inputs_found : (rows : List Row) (env : List Entry) → Agrees rows env → (k : ℕ) (vs : List ValueId) (xs : List NextInput) → AllByRecursion (IsDefined rows) vs → k + length vs ≤ 64 → Laid (map (next_input_at rows) vs) xs → more_inputs env k xs ≡ Ok (map (operand rows) vs)
-more_inputs_found rows env ag k [] [] d le l = refl
-more_inputs_found rows env ag k [] (x ∷ xs) d le l = absurd l
-more_inputs_found rows env ag k (v ∷ vs) [] d le l = absurd l
-more_inputs_found rows env ag k (v ∷ vs) (x ∷ xs) d le l =
-    let one = operand_found rows env v (known rows env ag v d.0) k (lt-ltb k 64 (omega arith)) x.name (ap (λ (y : NextInput). y.name.text) l.0.1) in
-    rw (one, more_inputs_found rows env ag (suc k) vs xs d.1 (omega arith) l.1) refl
-
-more_types_found : (rows : List Row) (env : List Entry) → Agrees rows env → (close : TokenShape) (vs : List ValueId) (xs : List NextInput) (ys : List NextType) → AllByRecursion (IsDefined rows) vs → Laid (map (next_input_at rows) vs) xs → Laid (map (next_type_at rows) vs) ys → more_types close env xs ys ≡ Ok tt
-more_types_found rows env ag close [] [] [] d l m = refl
-more_types_found rows env ag close [] [] (y ∷ ys) d l m = absurd m
-more_types_found rows env ag close [] (x ∷ xs) ys d l m = absurd l
-more_types_found rows env ag close (v ∷ vs) [] ys d l m = absurd l
-more_types_found rows env ag close (v ∷ vs) (x ∷ xs) [] d l m = absurd m
-more_types_found rows env ag close (v ∷ vs) (x ∷ xs) (y ∷ ys) d l m =
-    let one = typed_found rows env v (known rows env ag v d.0) x.name y.ty (ap (λ (z : NextInput). z.name.text) l.0.1) (ap (λ (z : NextType). z.ty.text) m.0.1) in
-    rw one (more_types_found rows env ag close vs xs ys d.1 l.1 m.1)
-
-length_map : {A B : Type 0} (f : A → B) (xs : List A) → length (map f xs) ≡ length xs
-length_map f [] = refl
-length_map f (x ∷ xs) = ap suc (length_map f xs)
-
-operands_found : (rows : List Row) (env : List Entry) → Agrees rows env → (v : ValueId) (vs : List ValueId) (out : ValueId) → IsDefined rows v → AllByRecursion (IsDefined rows) vs → IsDefined rows out → length (v ∷ vs) < 64
-    → (at : ℕ) → operands_of env ((operands_at rows v vs out).tree at) ≡ Ok (map (operand rows) (v ∷ vs), operand rows out)
-operands_found rows env ag v vs out d ds dd le at =
-    let o = (operands_at rows v vs out).tree at in
-    let k = known rows env ag v d in
-    let z = known rows env ag out dd in
-    let first = operand_found rows env v k 0 refl o.first refl in
-    let more = more_inputs_found rows env ag 1 vs o.more ds (omega arith) (each_laid (map (next_input_at rows) vs) _) in
-    let ty = typed_found rows env v k o.first o.types.first refl refl in
-    let tys = more_types_found rows env ag o.types.close vs o.more o.types.more ds (each_laid (map (next_input_at rows) vs) _) (each_laid (map (next_type_at rows) vs) _) in
-    let few : nat_lt (length (map (operand rows) (v ∷ vs))) 64 ≡ true = lt-ltb (length (map (operand rows) (v ∷ vs))) 64 (omega (arith, length_map (operand rows) (v ∷ vs))) in
-    let last = operand_found rows env out z (length (map (operand rows) (v ∷ vs))) few o.output refl in
-    let tl = typed_found rows env out z o.output o.output_type refl refl in
-    rw (first, more, ty, tys, last, tl) refl
-
--- ---- maps
-
--- the uses of these maps read back
-abbrev pub MapsRead : Option (List ℕ) → List MapShape → List MapShape → Type 0
-MapsRead alias al ms = (us : List AliasUse) → Laid (map (use_at al) ms) us → each (map_of alias) us ≡ Ok ms
-
-lines_read : (ms : List MapShape) → AreLines ms → MapsRead (Some (codes "#map")) (line_map ∷ []) ms
-lines_read [] a [] l = refl
-lines_read [] a (u ∷ us) l = absurd l
-lines_read (m ∷ ms) a [] l = absurd l
-lines_read (m ∷ ms) a (u ∷ us) l =
-    let name : u.name.text ≡ codes "#map" = ap (λ (y : AliasUse). y.name.text) l.0.1 ∙ ap (alias_of (line_map ∷ [])) a.0 ∙ line_number in
-    rw (name, lines_read ms a.1 us l.1) (ap (λ x. Ok (x ∷ ms)) (sym a.0))
-
-none_read : (ms : List MapShape) → ms ≡ [] → MapsRead None [] ms
-none_read ms e us l = none_if us (subst (λ (xs : List MapShape). Laid (map (use_at []) xs) us) e l) ∙ ap (λ (xs : List MapShape). Ok xs) (sym e)
+-- what was found is still found
+held_more : (env more : List Entry) (q : List ℕ) (at : ℕ) (x : ℕ × Ty) → held at (find env q) ≡ Ok x → held at (find (env ++ more) q) ≡ Ok x
+held_more env more q at x h = by (find env q) refl h
   where
-    none_if : (us : List AliasUse) → Laid {A = AliasUse} [] us → each (map_of None) us ≡ Ok []
-    none_if [] l = refl
-    none_if (u ∷ us) l = absurd l
+    by : (o : Option Meaning) → find env q ≡ o → held at o ≡ Ok x → held at (find (env ++ more) q) ≡ Ok x
+    by None e k = absurd (cc k)
+    by (Some m) e k = ap (held at) (find_more env more q m e) ∙ k
 
--- behind commas
-after_laid : {A : Type 0} (ws : List (Writer A)) (xs : List A) → Laid (map after_comma ws) xs → Laid ws xs
-after_laid [] [] l = tt
-after_laid [] (x ∷ xs) l = absurd l
-after_laid (w ∷ ws) [] l = absurd l
-after_laid (w ∷ ws) (x ∷ xs) l = ((l.0.0 + 1 + 1, l.0.1), after_laid ws xs l.1)
+module _ (base : ℕ) where
+  -- ---- where a text stands
 
-commas_laid : {A : Type 0} (ws : List (Writer A)) (at : ℕ) → Laid ws ((commas ws).tree at)
-commas_laid [] at = tt
-commas_laid (w ∷ ws) at = ((at, refl), after_laid ws _ (each_laid (map after_comma ws) _))
+  abbrev pub number : List Row → ℕ → ℕ
+  number rows v = unwrap_or (spot base rows v) base
 
--- ---- operations
+  -- each value that was defined is found under its name
+  abbrev pub Agrees : List Row → List Entry → Type 0
+  Agrees rows env = (v : ℕ) (x : Row) → look rows v ≡ Some x → ((at : ℕ) → held at (find env (given_text x.name)) ≡ Ok (number rows v, x.ty)) × Usable x.ty
 
-row_good : (rows : List Row) (env : List Entry) → Agrees rows env → (v : ValueId) → IsDefined rows v → Good (elem_in rows v)
-row_good rows env ag v d = subst (λ o. Good (elem_of (row_or o).ty)) (sym d.1) (ag v.0 d.0 d.1).1.elem
+  pub record Standing (n : Names) (env : List Entry) : Type 0 where
+    pub agrees : Agrees n.rows env
+    pub canon : AreCanon n.args n.results env
 
-rows_good : (rows : List Row) (env : List Entry) → Agrees rows env → (vs : List ValueId) → AllByRecursion (IsDefined rows) vs → AllByRecursion Good (map (elem_in rows) vs)
-rows_good rows env ag [] d = tt
-rows_good rows env ag (v ∷ vs) d = (row_good rows env ag v d.0, rows_good rows env ag vs d.1)
+  agree_if : (b : Bool) (rows : List Row) (r x : Row) (env : List Entry) (m : Meaning) (v : ℕ) → find env (given_text r.name) ≡ None → Usable r.ty → ((at : ℕ) → held at (Some m) ≡ Ok (base + length rows, r.ty))
+      → ((look rows v ≡ Some x) → ((at : ℕ) → held at (find env (given_text x.name)) ≡ Ok (number rows v, x.ty)) × Usable x.ty) → cond b (Some r) (look rows v) ≡ Some x
+      → ((at : ℕ) → held at (find (env ++ entry (given_text r.name) m ∷ []) (given_text x.name)) ≡ Ok (unwrap_or (cond b (Some (base + length rows)) (spot base rows v)) base, x.ty)) × Usable x.ty
+  agree_if true rows r x env m v none rd k f h =
+      let e : r ≡ x = cc h in
+      subst (λ (y : Row). ((at : ℕ) → held at (find (env ++ entry (given_text r.name) m ∷ []) (given_text y.name)) ≡ Ok (base + length rows, y.ty)) × Usable y.ty) e
+      ((λ at. ap (held at) (find_new env (given_text r.name) m none) ∙ k at), rd)
+  agree_if false rows r x env m v none rd k f h = let o = f h in ((λ at. held_more env (entry (given_text r.name) m ∷ []) (given_text x.name) at (number rows v, x.ty) (o.0 at)), o.1)
 
-elems_of : (rows : List Row) (vs : List ValueId) → map (λ (o : ValueId × ElemTy). o.1) (map (operand rows) vs) ≡ map (elem_in rows) vs
-elems_of rows [] = refl
-elems_of rows (v ∷ vs) = ap (λ es. elem_in rows v ∷ es) (elems_of rows vs)
+  -- one more value, whose name stands for it
+  pub agrees_more : (rows : List Row) (env : List Entry) (r : Row) (m : Meaning) → Agrees rows env → find env (given_text r.name) ≡ None → Usable r.ty → ((at : ℕ) → held at (Some m) ≡ Ok (base + length rows, r.ty)) → Agrees (rows ++ r ∷ []) (env ++ entry (given_text r.name) m ∷ [])
+  agrees_more rows env r m ag none rd k v x h =
+      let o = agree_if (nat_eq r.value v) rows r x env m v none rd k (λ q. ag v x q) (sym (look_last rows r v) ∙ h) in
+      ((λ at. o.0 at ∙ ap (λ s. Ok (unwrap_or s base, x.ty)) (sym (spot_last base rows r v))), o.1)
 
-ids_of : (rows : List Row) (vs : List ValueId) → map (λ (o : ValueId × ElemTy). o.0) (map (operand rows) vs) ≡ map (number_in 0 rows) vs
-ids_of rows [] = refl
-ids_of rows (v ∷ vs) = ap (λ ids. number_in 0 rows v ∷ ids) (ids_of rows vs)
+  -- ---- values
 
-abbrev scope : Names → List Entry → ℕ → Scope
-scope n env ops = record { env = env; values = length n.rows; ops = ops }
+  pub record Known (rows : List Row) (env : List Entry) (v : ValueId) : Type 0 where
+    pub row : Row
+    pub there : look rows v.0 ≡ Some row
+    pub found : (at : ℕ) → held at (find env (given_text row.name)) ≡ Ok (number rows v.0, row.ty)
+    pub usable : Usable row.ty
 
--- where the region begins in a generic operation at a place
-abbrev region_place : List MapShape → List Row → List MapShape → ValueId → List ValueId → ValueId → ℕ → ℕ
-region_place al rows maps v vs out at = at + 14 + 1 + 1 + 13 + 1 + 1 + 1 + 1 + length (bytes_of (commas (map (use_at al) maps)).pieces) + 1 + 1 + 1 + 14 + 1 + 1 + 1 + 1 + 10 + 1 + 1 + 1 + length (bytes_of (operands_at rows v vs out).pieces) + 1 + 1 + 5
+  pub known : (rows : List Row) (env : List Entry) → Agrees rows env → (v : ValueId) → IsDefined rows v → Known rows env v
+  known rows env ag v d = let a = ag v.0 d.0 d.1 in record { row = d.0; there = d.1; found = a.0; usable = a.1 }
 
-then_is : {A B : Type 0} (r : Answer A Fault) (x : A) (f : A → Answer B Fault) (y : Answer B Fault) → r ≡ Ok x → f x ≡ y → and_then r f ≡ y
-then_is r x f y e k = ap (λ s. and_then s f) e ∙ k
+  value_found : (rows : List Row) (env : List Entry) (v : ValueId) (k : Known rows env v) (t : TokenShape) → t.text ≡ name_in rows v → value env t ≡ Ok (number rows v.0, k.row.ty)
+  value_found rows env v k t e = ap (λ (q : List ℕ). held t.start (find env q)) (e ∙ ap name_or k.there) ∙ k.found t.start
 
-kind_found : (alias : Option (List ℕ)) (al : List MapShape) (n : Names) (env : List Entry) (k : ℕ) (ty : Ty) (o : OpKind) → Standing n env → AreCanon n.args (n.results + 1) env → Bound k n → k < 65535 → Readable ty → MapsRead alias al (maps_used o) → IsPrintableKind n.rows o
-    → (at : ℕ) → operation_of alias (scope n env k) ((operation_at al n ty o).tree at) ≡ Ok (ty, kind_renumbered (number_in 0 n.rows) o)
-kind_found alias al n env k ty (kinds.Empty []) s canon b lt rd ms h at = let room = lt-ltb k 65536 (omega arith) in rw (room, rd.shaped) refl
-kind_found alias al n env k ty (kinds.Empty (v ∷ vs)) s canon b lt rd ms h at = absurd (cc h)
-kind_found alias al n env k ty (kinds.Generic maps its [] out captured p) s canon b lt rd ms h at = absurd (omega (arith, h.some))
-kind_found alias al n env k ty (kinds.Generic maps its (v ∷ vs) out captured p) s canon b lt rd ms h at =
-    let g = (generic_at al n.rows n.args (n.results + 1) ty maps v vs out p).tree at in
-    let ba = b.args in
-    let br = b.results in
-    let i = inner_few n.rows (kinds.Generic maps its (v ∷ vs) out captured p) h in
-    let room = lt-ltb k 65536 (omega arith) in
-    let read = ms g.maps (commas_laid (map (use_at al) maps) _) in
-    let ops = operands_found n.rows env s.agrees v vs out h.ins_defined.0 h.ins_defined.1 h.out_defined h.few in
-    let gs = subst (λ (es : List ElemTy). AllByRecursion Good es) (sym h.ins_typed) (rows_good n.rows env s.agrees (v ∷ vs) h.ins_defined) in
-    let go = subst (λ e. Good e) (sym h.out_typed) (row_good n.rows env s.agrees out h.out_defined) in
-    let es : map (λ (o : ValueId × ElemTy). o.1) (map (operand n.rows) (v ∷ vs)) ≡ p.ins = elems_of n.rows (v ∷ vs) ∙ sym h.ins_typed in
-    let ids : map (λ (o : ValueId × ElemTy). o.0) (map (operand n.rows) (v ∷ vs)) ≡ map (number_in 0 n.rows) (v ∷ vs) = ids_of n.rows (v ∷ vs) in
-    let pay = region_found env n.args (n.results + 1) p canon (omega (arith, i.0)) (omega (arith, i.1)) h.few_steps gs go h.payload h.additions in
-    rw (h.iterators, h.not_captured, room, read, ops) (then_is _ p _ _ (subst (λ (ts : List ElemTy). payload_of env ts (elem_in n.rows out) ((region_at n.args (n.results + 1) p).tree (region_place al n.rows maps v vs out at)) ≡ Ok p) (sym es)
-    (subst (λ e. payload_of env p.ins e ((region_at n.args (n.results + 1) p).tree (region_place al n.rows maps v vs out at)) ≡ Ok p) h.out_typed (pay (region_place al n.rows maps v vs out at))))
-    (rw (rd.shaped, ids) refl))
-kind_found alias al n env k ty o s canon b lt rd ms h at = absurd h
+  pub typed_found : (rows : List Row) (env : List Entry) (v : ValueId) → Known rows env v → (name ty : TokenShape) → name.text ≡ name_in rows v → ty.text ≡ type_in rows v → typed_as env name ty ≡ Ok tt
+  typed_found rows env v k name ty e f = rw (value_found rows env v k name e) (k.usable.same ty (f ∙ ap type_or k.there))
 
--- ---- statements
+  pub id_found : (rows : List Row) (env : List Entry) (v : ValueId) → Known rows env v → (t : TokenShape) → t.text ≡ name_in rows v → value_id env t ≡ Ok (number_in base rows v)
+  id_found rows env v k t e = rw (value_found rows env v k t e) refl
 
-length_last : (rows : List Row) (r : Row) → length (rows ++ r ∷ []) ≡ suc (length rows)
-length_last rows r = length-append rows (r ∷ []) ∙ omega arith
+  type_found : (rows : List Row) (env : List Entry) (v : ValueId) → Known rows env v → (t : TokenShape) → t.text ≡ name_in rows v → type_of env t ≡ Ok (row_in rows v).ty
+  type_found rows env v k t e = rw (value_found rows env v k t e, k.there) refl
 
-small_names : (k : ℕ) (n : Names) → Bound k n → k ≤ 65536 → Small n.args n.results
-small_names k n b le = let a = b.args in let r = b.results in record { args = omega arith; results = omega arith }
+  typed_id_found : (rows : List Row) (env : List Entry) (v : ValueId) → Known rows env v → (name ty : TokenShape) → name.text ≡ name_in rows v → ty.text ≡ type_in rows v → typed_id env name ty ≡ Ok (number_in base rows v)
+  typed_id_found rows env v k name ty e f = rw (id_found rows env v k name e, typed_found rows env v k name ty e f) refl
 
-abbrev defined : Names → List Entry → Ty → List Entry
-defined n env ty = env ++ entry (result_name n.results) (Held (length n.rows) ty) ∷ []
+  output_found : (rows : List Row) (env : List Entry) → Agrees rows env → (out : ValueId) → IsDefined rows out → (at : ℕ) → output_of env ((output_at rows out).tree at) ≡ Ok (number_in base rows out)
+  output_found rows env ag out d at = let o = (output_at rows out).tree at in typed_id_found rows env out (known rows env ag out d) o.name o.ty refl refl
 
-line_found : (alias : Option (List ℕ)) (al : List MapShape) (n : Names) (env : List Entry) (k : ℕ) (r : ValueId × Ty) (o : OpKind) → Standing n env → Bound k n → k < 65535 → IsRowType r.1 → MapsRead alias al (maps_used o) → IsPrintableKind n.rows o
-    → (at : ℕ) → statement_of alias (scope n env k) ((line_at al n (r ∷ []) o).tree at) ≡ Ok (scope (names_after n (r ∷ []) o) (defined n env r.1) (suc k), record { id = record { 0 = k }; results = results_renumbered (length n.rows + 0) (r ∷ []); kind = kind_renumbered (number_in 0 n.rows) o })
-line_found alias al n env k r o s b lt t ms h at =
-    let none = fresh_result n.args n.results env (small_names k n b (omega arith)) s.canon in
-    let wide = canon_more n.args n.results n.args (n.results + 1) (omega arith) (omega arith) env s.canon in
-    let kind = kind_found alias al n env k r.1 o s wide b lt (readable r.1 t) ms h in
-    let len = length_last n.rows (row_of r.0 (Result n.results) r.1) in
-    let z : length n.rows + 0 ≡ length n.rows = omega arith in
-    rw (none, kind, len, z) refl
+  -- ---- operands of a generic operation
 
-line_standing : (n : Names) (env : List Entry) (k : ℕ) (r : ValueId × Ty) (o : OpKind) → Standing n env → Bound k n → k ≤ 65536 → IsRowType r.1 → Standing (names_after n (r ∷ []) o) (defined n env r.1)
-line_standing n env k r o s b le t =
-    let none = fresh_result n.args n.results env (small_names k n b le) s.canon in
-    record {
-      agrees = agrees_more n.rows env (row_of r.0 (Result n.results) r.1) s.agrees none (readable r.1 t);
-      canon = all_last (λ e. IsCanon (n.args + inner_args o) (n.results + inner_results o + 1) e.name) env (entry (result_name n.results) (Held (length n.rows) r.1))
-          (canon_more n.args n.results (n.args + inner_args o) (n.results + inner_results o + 1) (omega arith) (omega arith) env s.canon) (inr (n.results, omega arith, refl));
-    }
+  abbrev operand : List Row → ValueId → ValueId × ElemTy
+  operand rows v = (number_in base rows v, elem_in rows v)
 
-abbrev ending_of : Scope → Ending → Answer Op Fault
-ending_of s e = and_then (room s.ops (word_in e.0)) (λ _. and_then (returned_of s.env e.1.0 e.1.1) (λ v. Ok (record { id = record { 0 = s.ops }; results = []; kind = kinds.Return (v ∷ []) })))
+  operand_found : (rows : List Row) (env : List Entry) (v : ValueId) → Known rows env v → (k : ℕ) → nat_lt k 64 ≡ true → (t : TokenShape) → t.text ≡ name_in rows v → operand_of env k t ≡ Ok (operand rows v)
+  operand_found rows env v k j lt t e = rw (value_found rows env v k t e, lt, k.there) refl
 
-abbrev ended_by : Ending → Scope × List Op → Answer (List Op) Fault
-ended_by e b = and_then (ending_of b.0 e) (λ last. Ok (b.1 ++ last ∷ []))
+  more_inputs_found : (rows : List Row) (env : List Entry) → Agrees rows env → (k : ℕ) (vs : List ValueId) (xs : List NextInput) → AllByRecursion (IsDefined rows) vs → k + length vs ≤ 64 → Laid (map (next_input_at rows) vs) xs → more_inputs env k xs ≡ Ok (map (operand rows) vs)
+  more_inputs_found rows env ag k [] [] d le l = refl
+  more_inputs_found rows env ag k [] (x ∷ xs) d le l = absurd l
+  more_inputs_found rows env ag k (v ∷ vs) [] d le l = absurd l
+  more_inputs_found rows env ag k (v ∷ vs) (x ∷ xs) d le l =
+      let one = operand_found rows env v (known rows env ag v d.0) k (lt-ltb k 64 (omega arith)) x.name (ap (λ (y : NextInput). y.name.text) l.0.1) in
+      rw (one, more_inputs_found rows env ag (suc k) vs xs d.1 (omega arith) l.1) refl
 
--- the operations, with the return
-abbrev body_of : Option (List ℕ) → Scope → Body → Answer (List Op) Fault
-body_of alias s t = and_then (statements_of alias s t.0) (λ b. ended_by t.1 b)
+  more_types_found : (rows : List Row) (env : List Entry) → Agrees rows env → (close : TokenShape) (vs : List ValueId) (xs : List NextInput) (ys : List NextType) → AllByRecursion (IsDefined rows) vs → Laid (map (next_input_at rows) vs) xs → Laid (map (next_type_at rows) vs) ys → more_types close env xs ys ≡ Ok tt
+  more_types_found rows env ag close [] [] [] d l m = refl
+  more_types_found rows env ag close [] [] (y ∷ ys) d l m = absurd m
+  more_types_found rows env ag close [] (x ∷ xs) ys d l m = absurd l
+  more_types_found rows env ag close (v ∷ vs) [] ys d l m = absurd l
+  more_types_found rows env ag close (v ∷ vs) (x ∷ xs) [] d l m = absurd m
+  more_types_found rows env ag close (v ∷ vs) (x ∷ xs) (y ∷ ys) d l m =
+      let one = typed_found rows env v (known rows env ag v d.0) x.name y.ty (ap (λ (z : NextInput). z.name.text) l.0.1) (ap (λ (z : NextType). z.ty.text) m.0.1) in
+      rw one (more_types_found rows env ag close vs xs ys d.1 l.1 m.1)
 
-one_before : (y : Op) (e : Ending) (r : Answer (Scope × List Op) Fault) → and_then (and_then r (λ q. Ok (q.0, y ∷ q.1))) (λ b. ended_by e b) ≡ and_then (and_then r (λ b. ended_by e b)) (λ (os : List Op). Ok (y ∷ os))
-one_before y e (Err x) = refl
-one_before y e (Ok q) = by_end (ending_of q.0 e)
-  where
-    by_end : (l : Answer Op Fault) → and_then l (λ last. Ok ((y ∷ q.1) ++ last ∷ [])) ≡ and_then (and_then l (λ last. Ok (q.1 ++ last ∷ []))) (λ (os : List Op). Ok (y ∷ os))
-    by_end (Ok last) = refl
-    by_end (Err x) = refl
+  length_map : {A B : Type 0} (f : A → B) (xs : List A) → length (map f xs) ≡ length xs
+  length_map f [] = refl
+  length_map f (x ∷ xs) = ap suc (length_map f xs)
 
-last_found : (n : Names) (env : List Entry) (k : ℕ) (rs : List (ValueId × Ty)) (o : OpKind) (al : List MapShape) → Standing n env → k < 65536 → rs ≡ [] → IsPrintableReturn n.rows o
-    → (at : ℕ) → ending_of (scope n env k) ((last_at al n rs o).tree at) ≡ Ok (record { id = record { 0 = k }; results = results_renumbered (length n.rows + 0) rs; kind = kind_renumbered (number_in 0 n.rows) o })
-last_found n env k rs (kinds.Return (v ∷ [])) al s lt e h at =
-    let d = known n.rows env s.agrees v h in
-    let room = lt-ltb k 65536 lt in
-    rw (e, room, d.there, d.found, d.readable.same) refl
-last_found n env k rs o al s lt e h at = absurd h
+  typed_output_found : (rows : List Row) (env : List Entry) → Agrees rows env → (k : ℕ) → nat_lt k 64 ≡ true → (out : ValueId) → IsDefined rows out → (at : ℕ) → typed_output env k ((output_at rows out).tree at) ≡ Ok (operand rows out)
+  typed_output_found rows env ag k lt out d at =
+      let o = (output_at rows out).tree at in
+      let z = known rows env ag out d in
+      rw (operand_found rows env out z k lt o.name refl, typed_found rows env out z o.name o.ty refl refl) refl
 
--- the maps of all operations read back
-abbrev AllRead : Option (List ℕ) → List MapShape → List Op → Type 0
-AllRead alias al os = AllByRecursion (λ o. MapsRead alias al (maps_used o.kind)) os
+  operands_found : (rows : List Row) (env : List Entry) → Agrees rows env → (ins : List ValueId) (out : ValueId) → AllByRecursion (IsDefined rows) ins → IsDefined rows out → length ins < 64
+      → (at : ℕ) → operands_of env ((operands_at rows ins out).tree at) ≡ Ok (map (operand rows) ins, operand rows out)
+  unfolding typed_inputs
+  operands_found rows env ag [] out d dd le at = rw (typed_output_found rows env ag 0 refl out dd at) refl
+  operands_found rows env ag (v ∷ vs) out d dd le at =
+      let o = (operands_at rows (v ∷ vs) out).tree at in
+      let i = (inputs_at rows v vs).tree at in
+      let k = known rows env ag v d.0 in
+      let first = operand_found rows env v k 0 refl i.first refl in
+      let more = more_inputs_found rows env ag 1 vs i.more d.1 (omega arith) (each_laid (map (next_input_at rows) vs) _) in
+      let ty = typed_found rows env v k i.first i.types.first refl refl in
+      let tys = more_types_found rows env ag i.types.close vs i.more i.types.more d.1 (each_laid (map (next_input_at rows) vs) _) (each_laid (map (next_type_at rows) vs) _) in
+      let few : nat_lt (length (map (operand rows) (v ∷ vs))) 64 ≡ true = lt-ltb (length (map (operand rows) (v ∷ vs))) 64 (omega (arith, length_map (operand rows) (v ∷ vs))) in
+      rw (first, more, ty, tys, typed_output_found rows env ag (length (map (operand rows) (v ∷ vs))) few out dd) refl
 
--- an operation with one result, by its results
-by_results : (alias : Option (List ℕ)) (al : List MapShape) (n : Names) (env : List Entry) (k : ℕ) (rs : List (ValueId × Ty)) (o : OpKind) → Standing n env → Bound k n → k < 65535 → IsPrintableResult rs → MapsRead alias al (maps_used o) → IsPrintableKind n.rows o
-    → (env2 : List Entry) × ((at : ℕ) → statement_of alias (scope n env k) ((line_at al n rs o).tree at) ≡ Ok (scope (names_after n rs o) env2 (suc k), record { id = record { 0 = k }; results = results_renumbered (length n.rows + 0) rs; kind = kind_renumbered (number_in 0 n.rows) o }))
-    × Standing (names_after n rs o) env2 × Bound (suc k) (names_after n rs o)
-by_results alias al n env k [] o s b lt t ms h = absurd t
-by_results alias al n env k (r ∷ []) o s b lt t ms h =
-    let z : k + 1 ≡ suc k = omega arith in
-    (defined n env r.1, line_found alias al n env k r o s b lt t ms h, line_standing n env k r o s b (omega arith) t, subst (λ j. Bound j (names_after n (r ∷ []) o)) z (bound_next k n r o b h))
-by_results alias al n env k (r ∷ (q ∷ rs)) o s b lt t ms h = absurd t
+  iterator_found : (k : ℕ) (i : Iter) (x : IteratorType) → nat_lt k 12 ≡ true → (at : ℕ) → x ≡ (iterator_at i).tree at → iterator_of k x ≡ Ok i
+  iterator_found k Parallel x lt at e = rw (e, lt) refl
+  iterator_found k Reduction x lt at e = rw (e, lt) refl
 
-body_found : (alias : Option (List ℕ)) (al : List MapShape) (n : Names) (env : List Entry) (k : ℕ) (os : List Op) → Standing n env → Bound k n → k + length os ≤ 65536 → AllRead alias al os → ArePrintableOps n os
-    → (at : ℕ) → body_of alias (scope n env k) ((body_at al n os).tree at) ≡ Ok (ops_renumbered 0 k n os)
-body_found alias al n env k [] s b le ms h at = absurd h
-body_found alias al n env k (o ∷ []) s b le ms h at = rw (last_found n env k o.results o.kind al s (omega arith) h.0 h.1) refl
-body_found alias al n env k (o ∷ (p ∷ os)) s b le ms h at =
-    let one = by_results alias al n env k o.results o.kind s b (omega arith) h.0 ms.0 h.1 in
-    let more = body_found alias al (next n o) one.0 (suc k) (p ∷ os) one.2 one.3 (omega arith) ms.1 h.2 (at + 5 + length (bytes_of (line_at al n o.results o.kind).pieces)) in
-    let t = (body_at al (next n o) (p ∷ os)).tree (at + 5 + length (bytes_of (line_at al n o.results o.kind).pieces)) in
-    rw (one.1) (one_before (op_renumbered 0 k n o) ((body_at al (next n o) (p ∷ os)).tree (at + 5 + length (bytes_of (line_at al n o.results o.kind).pieces))).1
-    (statements_of alias (scope (next n o) one.0 (suc k)) ((body_at al (next n o) (p ∷ os)).tree (at + 5 + length (bytes_of (line_at al n o.results o.kind).pieces))).0)
-    ∙ ap (λ r. and_then r (λ (os : List Op). Ok (op_renumbered 0 k n o ∷ os))) more)
+  iterators_found : (k : ℕ) (its : List Iter) (xs : List IteratorType) → k + length its ≤ 12 → Laid (map iterator_at its) xs → iterators_from k xs ≡ Ok its
+  iterators_found k [] [] le l = refl
+  iterators_found k [] (x ∷ xs) le l = absurd l
+  iterators_found k (i ∷ is) [] le l = absurd l
+  iterators_found k (i ∷ is) (x ∷ xs) le l = rw (iterator_found k i x (lt-ltb k 12 (omega arith)) l.0.0 l.0.1, iterators_found (suc k) is xs (omega arith) l.1) refl
 
--- ---- parameters
+  -- behind commas
+  after_laid : {A : Type 0} (ws : List (Writer A)) (xs : List A) → Laid (map after_comma ws) xs → Laid ws xs
+  after_laid [] [] l = tt
+  after_laid [] (x ∷ xs) l = absurd l
+  after_laid (w ∷ ws) [] l = absurd l
+  after_laid (w ∷ ws) (x ∷ xs) l = ((l.0.0 + 1 + 1, l.0.1), after_laid ws xs l.1)
 
-arg_standing : (n : Names) (env : List Entry) (p : ValueId × Ty) → Standing n env → Small n.args n.results → IsRowType p.1 → Standing (with_argument n p.0 p.1) (env ++ entry (arg_name n.args) (Held (length n.rows) p.1) ∷ [])
-arg_standing n env p s small t =
-    let none = fresh_arg n.args n.results env small s.canon in
-    record {
-      agrees = agrees_more n.rows env (row_of p.0 (Argument n.args) p.1) s.agrees none (readable p.1 t);
-      canon = all_last (λ e. IsCanon (n.args + 1) n.results e.name) env (entry (arg_name n.args) (Held (length n.rows) p.1))
-          (canon_more n.args n.results (n.args + 1) n.results (omega arith) (omega arith) env s.canon) (inl (n.args, omega arith, refl));
-    }
+  pub commas_laid : {A : Type 0} (ws : List (Writer A)) (at : ℕ) → Laid ws ((commas ws).tree at)
+  commas_laid [] at = tt
+  commas_laid (w ∷ ws) at = ((at, refl), after_laid ws _ (each_laid (map after_comma ws) _))
 
-params_found : (n : Names) (ps : List (ValueId × Ty)) (env : List Entry) (xs : List Param) → Standing n env → n.args ≡ length n.rows → n.results ≡ 0 → length n.rows + length ps ≤ 64 → AllByRecursion (λ p. IsRowType p.1) ps → Laid (params_at n ps) xs
-    → (env2 : List Entry) × (params_of (scope n env 0) xs ≡ Ok (scope (after_params n ps) env2 0, results_renumbered (length n.rows) ps)) × Standing (after_params n ps) env2
-params_found n [] env [] s a r le t l = (env, refl, s)
-params_found n [] env (x ∷ xs) s a r le t l = absurd l
-params_found n (p ∷ ps) env [] s a r le t l = absurd l
-params_found n (p ∷ ps) env (x ∷ xs) s a r le t l =
-    let small : Small n.args n.results = record { args = omega arith; results = omega arith } in
-    let none = fresh_arg n.args n.results env small s.canon in
-    let room = lt-ltb (length n.rows) 64 (omega arith) in
-    let rd = readable p.1 t.0 in
-    let len = length_last n.rows (row_of p.0 (Argument n.args) p.1) in
-    let more = params_found (with_argument n p.0 p.1) ps (env ++ entry (arg_name n.args) (Held (length n.rows) p.1) ∷ []) xs (arg_standing n env p s small t.0) (omega arith) r (omega arith) t.1 l.1 in
-    (more.0, rw (l.0.1, none, room, rd.shaped, sym len, more.1) refl, more.2)
+  -- ---- operations
 
--- ---- functions
+  row_good : (rows : List Row) (env : List Entry) → Agrees rows env → (v : ValueId) → IsDefined rows v → Good (elem_in rows v)
+  row_good rows env ag v d = subst (λ o. Good (elem_of (row_or o).ty)) (sym d.1) (ag v.0 d.0 d.1).1.elem
 
-letter_low : (b : ℕ) → 128 ≤ b → is_word_byte b ≡ false
-letter_low b h =
-    let a1 : nat_le 97 b ≡ true = le-leb 97 b (omega arith) in
-    let a2 : nat_le b 122 ≡ false = lt-leb b 122 (omega arith) in
-    let b1 : nat_le 65 b ≡ true = le-leb 65 b (omega arith) in
-    let b2 : nat_le b 90 ≡ false = lt-leb b 90 (omega arith) in
-    let c1 : nat_le 48 b ≡ true = le-leb 48 b (omega arith) in
-    let c2 : nat_le b 57 ≡ false = lt-leb b 57 (omega arith) in
-    let e95 : nat_eq b 95 ≡ false = ne_eqb b 95 (λ e. absurd (omega (arith, e, h))) in
-    let e36 : nat_eq b 36 ≡ false = ne_eqb b 36 (λ e. absurd (omega (arith, e, h))) in
-    let e46 : nat_eq b 46 ≡ false = ne_eqb b 46 (λ e. absurd (omega (arith, e, h))) in
-    rw (a1, a2, b1, b2, c1, c2, e95, e36, e46) refl
+  rows_good : (rows : List Row) (env : List Entry) → Agrees rows env → (vs : List ValueId) → AllByRecursion (IsDefined rows) vs → AllByRecursion Good (map (elem_in rows) vs)
+  rows_good rows env ag [] d = tt
+  rows_good rows env ag (v ∷ vs) d = (row_good rows env ag v d.0, rows_good rows env ag vs d.1)
 
-ascii_if : (b : ℕ) (t : Bool) → nat_lt b 128 ≡ t → is_word_byte b ≡ true → nat_lt b 128 ≡ true
-ascii_if b true e h = e
-ascii_if b false e h = let l = ltb-false b 128 e in absurd (cc (letter_low b l, h))
+  elems_of : (rows : List Row) (vs : List ValueId) → map (λ (o : ValueId × ElemTy). o.1) (map (operand rows) vs) ≡ map (elem_in rows) vs
+  elems_of rows [] = refl
+  elems_of rows (v ∷ vs) = ap (λ es. elem_in rows v ∷ es) (elems_of rows vs)
 
-word_ascii : (b : ℕ) → is_word_byte b ≡ true → nat_lt b 128 ≡ true
-word_ascii b h = ascii_if b (nat_lt b 128) refl h
+  ids_of : (rows : List Row) (vs : List ValueId) → map (λ (o : ValueId × ElemTy). o.0) (map (operand rows) vs) ≡ map (number_in base rows) vs
+  ids_of rows [] = refl
+  ids_of rows (v ∷ vs) = ap (λ ids. number_in base rows v ∷ ids) (ids_of rows vs)
 
-bytes_ascii : (bs : List ℕ) → list_all is_word_byte bs ≡ true → list_all is_ascii bs ≡ true
-bytes_ascii [] h = refl
-bytes_ascii (b ∷ bs) h = let p = and_parts (is_word_byte b) (list_all is_word_byte bs) h in and_from (is_ascii b) (list_all is_ascii bs) (word_ascii b p.0) (bytes_ascii bs p.1)
+  abbrev pub scope : Names → List Entry → ℕ → Scope
+  scope n env ops = record { env = env; values = base + length n.rows; ops = ops }
 
-letter_word : (b : ℕ) → is_letter b ≡ true → is_word_byte b ≡ true
-letter_word b e = rw e refl
+  pub then_is : {A B : Type 0} (r : Answer A Fault) (x : A) (f : A → Answer B Fault) (y : Answer B Fault) → r ≡ Ok x → f x ≡ y → and_then r f ≡ y
+  then_is r x f y e k = ap (λ s. and_then s f) e ∙ k
 
-name_ascii : (name : List ℕ) → is_word name ≡ true → list_all is_ascii name ≡ true
-name_ascii [] h = absurd (cc h)
-name_ascii (b ∷ bs) h = let p = and_parts (is_letter b) (list_all is_word_byte bs) h in and_from (is_ascii b) (list_all is_ascii bs) (word_ascii b (letter_word b p.0)) (bytes_ascii bs p.1)
+  -- the parts of a generic operation, and the operation
+  generic_goes : (alias : List AliasShape) (rows : List Row) (env : List Entry) (g : Generic) (maps : List MapShape) (its : List Iter) (ins : List ValueId) (out : ValueId) (p : PayloadShape) (ty : Ty)
+      → each (map_of alias) g.maps ≡ Ok maps → iterators_from 0 g.iterators ≡ Ok its → operands_of env g.operands ≡ Ok (map (operand rows) ins, operand rows out) → p.ins ≡ map (elem_in rows) ins → p.out ≡ elem_in rows out
+      → payload_of env p.ins p.out g.region ≡ Ok p → type_at g.result_type ≡ Ok ty → generic_of alias env g ≡ Ok (ty, kinds.Generic maps its (map (number_in base rows) ins) (number_in base rows out) [] p)
+  generic_goes alias rows env g maps its ins out p ty read iters ops ei eo pay rd =
+      let es : map (λ (o : ValueId × ElemTy). o.1) (map (operand rows) ins) ≡ p.ins = elems_of rows ins ∙ sym ei in
+      let here : payload_of env (map (λ (o : ValueId × ElemTy). o.1) (map (operand rows) ins)) (elem_in rows out) g.region ≡ Ok p =
+      subst (λ (ts : List ElemTy). payload_of env ts (elem_in rows out) g.region ≡ Ok p) (sym es) (subst (λ e. payload_of env p.ins e g.region ≡ Ok p) eo pay)
+      in
+      rw (read, iters, ops) (then_is _ p _ _ here (rw (rd, ids_of rows ins) refl))
 
-with_body : (e : Ending) (r : Answer (Scope × List Op) Fault) (f : List Op → FuncShape) (os : List Op) → and_then r (λ b. ended_by e b) ≡ Ok os → and_then r (λ b. and_then (ending_of b.0 e) (λ last. Ok (f (b.1 ++ last ∷ [])))) ≡ Ok (f os)
-with_body e (Err x) f os h = absurd (cc h)
-with_body e (Ok q) f os h = by_end (ending_of q.0 e) h
-  where
-    by_end : (l : Answer Op Fault) → and_then l (λ last. Ok (q.1 ++ last ∷ [])) ≡ Ok os → and_then l (λ last. Ok (f (q.1 ++ last ∷ []))) ≡ Ok (f os)
-    by_end (Ok last) k = let g : q.1 ++ last ∷ [] ≡ os = cc k in ap (λ (xs : List Op). Ok (f xs)) g
-    by_end (Err x) k = absurd (cc k)
+  axes_found : (axes : List ℕ) (xs : List SignedNumber) → AllByRecursion (λ n. n ≤ 1048576) axes → Laid (map axis_at axes) xs → each axis_of xs ≡ Ok axes
+  axes_found [] [] h l = refl
+  axes_found [] (x ∷ xs) h l = absurd l
+  axes_found (n ∷ ns) [] h l = absurd l
+  axes_found (n ∷ ns) (x ∷ xs) h l =
+      let few = le-leb n 1048576 h.0 in
+      let value = decimal_value n (omega (arith, h.0)) in
+      rw (l.0.1, value, few, axes_found ns xs h.1 l.1) refl
 
-results_found : (ts : List Ty) → IsPrintableResultType ts → (at : ℕ) → (ty : Ty) × (type_at ((results_at ts).tree at) ≡ Ok ty) × (ty ∷ [] ≡ ts)
-results_found [] h at = absurd h
-results_found (t ∷ []) h at = (t, (readable t h).shaped at, refl)
-results_found (t ∷ (u ∷ ts)) h at = absurd h
+  factors_found : (rows : List Row) (env : List Entry) → Agrees rows env → (ty : Ty) (a b out : ValueId) → IsDefined rows a → IsDefined rows b → IsDefined rows out
+      → (at : ℕ) → factors_of env ((factors_at rows ty a b out).tree at) ≡ Ok (number_in base rows a, (number_in base rows b, number_in base rows out))
+  factors_found rows env ag ty a b out da db dd at =
+      let f = (factors_at rows ty a b out).tree at in
+      let x = known rows env ag a da in
+      let y = known rows env ag b db in
+      rw (id_found rows env a x f.left refl, id_found rows env b y f.right refl, typed_found rows env a x f.left f.left_type refl refl, typed_found rows env b y f.right f.right_type refl refl, output_found rows env ag out dd) refl
 
-function_found : (alias : Option (List ℕ)) (al : List MapShape) (f : FuncShape) → AllRead alias al f.body → IsPrintableFunc f → (at : ℕ) → function_of alias ((function_at al f).tree at) ≡ Ok (func_renumbered 0 0 f)
-function_found alias al f ms h at =
-    let x = (function_at al f).tree at in
-    let ps = params_found nothing f.params [] x.params (record { agrees = λ v y e. absurd (cc e); canon = tt }) refl refl (omega (arith, h.few_params)) h.params (commas_laid (params_at nothing f.params) _) in
-    let there : (p : ℕ) × (x.result ≡ (results_at f.results).tree p) = (_, refl) in
-    let rs = results_found f.results h.result there.0 in
-    let body = body_found alias al (names_in f) ps.0 0 f.body ps.2 (bound_in f.params h.few_params) (omega (arith, h.few_ops)) ms h.ops in
-    let name = name_ascii f.name h.name in
-    let parts : (p : ℕ) × ((x.statements, (x.return_name, (x.returned, x.return_type))) ≡ (body_at al (names_in f) f.body).tree p) = (_, refl) in
-    let whole = ap (body_of alias (scope (names_in f) ps.0 0)) parts.1 ∙ body parts.0 in
-    rw (name, ps.1) (then_is _ rs.0 _ _ (ap type_at there.1 ∙ rs.1) (with_body (x.return_name, (x.returned, x.return_type)) (statements_of alias (scope (names_in f) ps.0 0) x.statements) (λ os. record { name = f.name; params = results_renumbered 0 f.params; results = rs.0 ∷ []; body = os }) (ops_renumbered 0 0 (names_in f) f.body) whole ∙ ap (λ (ts : List Ty). Ok (record { name = f.name; params = results_renumbered 0 f.params; results = ts; body = ops_renumbered 0 0 (names_in f) f.body })) rs.2))
+  moved_found : (rows : List Row) (env : List Entry) → Agrees rows env → (a out : ValueId) → IsDefined rows a → IsDefined rows out
+      → (at : ℕ) → moved_of env ((moved_at rows a out).tree at) ≡ Ok (number_in base rows a, (number_in base rows out, (row_in rows out).ty))
+  moved_found rows env ag a out da dd at =
+      let s = (moved_at rows a out).tree at in
+      rw (typed_id_found rows env a (known rows env ag a da) s.source s.source_type refl refl, output_found rows env ag out dd, type_found rows env out (known rows env ag out dd) s.output.name refl) refl
 
--- ---- texts
+  moved_usable : (rows : List Row) (env : List Entry) → Agrees rows env → (ty : Ty) (a out : ValueId) (axes : List ℕ) → IsPrintableMove rows ty a out axes → Usable ty
+  moved_usable rows env ag ty a out axes h =
+      let d = h.output.is_defined in
+      let same : ty ≡ (h.output.is_defined).0.ty = h.result ∙ ap (λ (r : Row). r.ty) (row_there rows out d) in
+      subst (λ (t : Ty). Usable t) (sym same) (ag out.0 d.0 d.1).1
 
-none_reads : (os : List Op) → UseNone os → AllRead None [] os
-none_reads [] u = tt
-none_reads (o ∷ os) u = (none_read (maps_used o.kind) u.0, none_reads os u.1)
+  -- the type of the result is one of a value
+  kind_usable : (rows : List Row) (env : List Entry) → Agrees rows env → (ty : Ty) (o : OpKind) → IsPrintableKind rows ty o → Usable ty
+  kind_usable rows env ag ty (kinds.Constant cells) h = usable ty (constant_type ty cells h)
+  kind_usable rows env ag ty (kinds.Empty sizes) h = usable ty (tensor_value ty h.1)
+  kind_usable rows env ag ty (kinds.Generic maps its ins out captured p) h = usable ty (tensor_value ty h.result)
+  kind_usable rows env ag ty (kinds.Fill v out) h = usable ty (tensor_value ty h.result)
+  kind_usable rows env ag ty (kinds.Matmul a b out) h = usable ty (tensor_value ty h.result)
+  kind_usable rows env ag ty (kinds.BatchMatmul a b out) h = usable ty (tensor_value ty h.result)
+  kind_usable rows env ag ty (kinds.Transpose a out order) h = moved_usable rows env ag ty a out order h
+  kind_usable rows env ag ty (kinds.Broadcast a out dims) h = moved_usable rows env ag ty a out dims h
+  kind_usable rows env ag ty k h = absurd h
 
-line_reads : (os : List Op) → UseLines os → AllRead (Some (codes "#map")) (line_map ∷ []) os
-line_reads [] u = tt
-line_reads (o ∷ os) u = (lines_read (maps_used o.kind) u.0, line_reads os u.1)
+  -- where the region begins in a generic operation at a place
+  abbrev region_place : List MapShape → List Row → List MapShape → List Iter → List ValueId → ValueId → ℕ → ℕ
+  region_place al rows maps its ins out at = at + 14 + 1 + 1 + 13 + 1 + 1 + 1 + 1 + length (bytes_of (commas (map (use_at al) maps)).pieces) + 1 + 1 + 1 + 14 + 1 + 1 + 1 + 1 + length (bytes_of (commas (map iterator_at its)).pieces) + 1 + 1 + 1 + length (bytes_of (operands_at rows ins out).pieces) + 1 + 1 + 5
 
-abbrev one_function : FuncShape → Module
-one_function f = record { funcs = f ∷ [] }
+  kind_found : (alias : List AliasShape) (al : List MapShape) (n : Names) (env : List Entry) (k : ℕ) (ty : Ty) (o : OpKind) → Standing n env → AreCanon n.args (n.results + 1) env → Bound k n → k < 65535 → MapsRead alias al (maps_used o) → IsPrintableKind n.rows ty o
+      → (at : ℕ) → kind_of alias env ((operation_at al n ty o).tree at) ≡ Ok (ty, kind_renumbered (number_in base n.rows) o)
+  unfolding kind_of
+  kind_found alias al n env k ty (kinds.Constant cells) s canon b lt ms h at = constant_found alias env ty cells h at
+  kind_found alias al n env k ty (kinds.Empty []) s canon b lt ms h at = let rd = readable ty h.1 in rw rd.shaped refl
+  kind_found alias al n env k ty (kinds.Empty (v ∷ vs)) s canon b lt ms h at = absurd (cc (h.0))
+  kind_found alias al n env k ty (kinds.Generic maps its ins out (c ∷ cs) p) s canon b lt ms h at = absurd (cc (h.not_captured))
+  kind_found alias al n env k ty (kinds.Generic maps its ins out [] p) s canon b lt ms h at =
+      let g = (generic_at al n.rows n.args (n.results + 1) ty maps its ins out p).tree at in
+      let ba = b.args in
+      let br = b.results in
+      let i = inner_few n.rows ty (kinds.Generic maps its ins out [] p) h in
+      let gs = subst (λ (es : List ElemTy). AllByRecursion Good es) (sym h.ins_typed) (rows_good n.rows env s.agrees ins h.ins_defined) in
+      let go = subst (λ e. Good e) (sym h.out_typed) (row_good n.rows env s.agrees out h.output.is_defined) in
+      let pay = region_found env n.args (n.results + 1) p canon (omega (arith, i.0)) (omega (arith, i.1)) h.few_steps gs go h.payload h.steps in
+      let rd = readable ty h.result in
+      generic_goes alias n.rows env g maps its ins out p ty (ms g.maps (commas_laid (map (use_at al) maps) _)) (iterators_found 0 its g.iterators (omega (arith, h.few_iterators)) (commas_laid (map iterator_at its) _))
+      (operands_found n.rows env s.agrees ins out h.ins_defined h.output.is_defined h.few _) h.ins_typed h.out_typed (pay (region_place al n.rows maps its ins out at)) (rd.shaped _)
+  kind_found alias al n env k ty (kinds.Fill v out) s canon b lt ms h at =
+      let f = (fill_at n.rows ty v out).tree at in
+      let rd = readable ty h.result in
+      rw (typed_id_found n.rows env v (known n.rows env s.agrees v h.value.is_defined) f.value f.value_type refl refl, output_found n.rows env s.agrees out h.output.is_defined, rd.shaped) refl
+  kind_found alias al n env k ty (kinds.Matmul x y out) s canon b lt ms h at =
+      let rd = readable ty h.result in
+      rw (factors_found n.rows env s.agrees ty x y out h.left.is_defined h.right.is_defined h.output.is_defined, rd.shaped) refl
+  kind_found alias al n env k ty (kinds.BatchMatmul x y out) s canon b lt ms h at =
+      let rd = readable ty h.result in
+      rw (factors_found n.rows env s.agrees ty x y out h.left.is_defined h.right.is_defined h.output.is_defined, rd.shaped) refl
+  kind_found alias al n env k ty (kinds.Transpose a out order) s canon b lt ms h at =
+      let t = (transpose_at n.rows a out order).tree at in
+      rw (moved_found n.rows env s.agrees a out h.source.is_defined h.output.is_defined, axes_found order t.axes h.near (commas_laid (map axis_at order) _)) (ap (λ (u : Ty). Ok (u, kinds.Transpose (number_in base n.rows a) (number_in base n.rows out) order)) (sym h.result))
+  kind_found alias al n env k ty (kinds.Broadcast a out dims) s canon b lt ms h at =
+      let t = (broadcast_at n.rows a out dims).tree at in
+      rw (moved_found n.rows env s.agrees a out h.source.is_defined h.output.is_defined, axes_found dims t.axes h.near (commas_laid (map axis_at dims) _)) (ap (λ (u : Ty). Ok (u, kinds.Broadcast (number_in base n.rows a) (number_in base n.rows out) dims)) (sym h.result))
+  kind_found alias al n env k ty o s canon b lt ms h at = absurd h
 
-with_found : (al : List MapShape) (f : FuncShape) → ((al ≡ []) × UseNone f.body) ⊎ (al ≡ line_map ∷ []) → UseLines f.body → IsPrintableFunc f → (at : ℕ) → resolve ((text_with al (f ∷ [])).tree at) ≡ Ok (one_function (func_renumbered 0 0 f))
-with_found al f (inl p) u h at = rw p.0 (ap (λ r. and_then r (λ g. Ok (one_function g))) (function_found None [] f (none_reads f.body p.1) h _))
-with_found al f (inr p) u h at = rw p (ap (λ r. and_then r (λ g. Ok (one_function g))) (function_found (Some (codes "#map")) (line_map ∷ []) f (line_reads f.body u) h _))
+  -- ---- statements
 
-funcs_found : (fs : List FuncShape) → ArePrintable fs → (at : ℕ) → resolve ((text_with (with_funcs [] fs) fs).tree at) ≡ Ok (record { funcs = funcs_renumbered 0 0 fs })
-funcs_found [] h at = absurd h
-funcs_found (f ∷ []) h at = let u = use_lines (names_in f) f.body h.ops in with_found (with_ops [] f.body) f (aliases_in f.body u) u h at
-funcs_found (f ∷ (g ∷ fs)) h at = absurd h
+  pub length_last : (rows : List Row) (r : Row) → length (rows ++ r ∷ []) ≡ suc (length rows)
+  length_last rows r = length-append rows (r ∷ []) ∙ omega arith
 
--- the tree of the canonical text stands for the module with the numbers of the text
-pub text_found : (m : Module) → IsPrintable m → (at : ℕ) → resolve ((text_at m).tree at) ≡ Ok (renumbered m)
-text_found m h at = funcs_found m.funcs h at
+  pub small_names : (k : ℕ) (n : Names) → Bound k n → k ≤ 65536 → Small n.args n.results
+  small_names k n b le = let a = b.args in let r = b.results in record { args = omega arith; results = omega arith }
+
+  abbrev meaning : Names → Ty → OpKind → Meaning
+  meaning n ty o = result_meaning (base + length n.rows) ty (kind_renumbered (number_in base n.rows) o)
+
+  abbrev defined : Names → List Entry → Ty → OpKind → List Entry
+  defined n env ty o = env ++ entry (result_name n.results) (meaning n ty o) ∷ []
+
+  line_found : (alias : List AliasShape) (al : List MapShape) (n : Names) (env : List Entry) (k : ℕ) (r : ValueId × Ty) (o : OpKind) → Standing n env → Bound k n → k < 65535 → MapsRead alias al (maps_used o) → IsPrintableKind n.rows r.1 o
+      → (at : ℕ) → statement_of alias (scope n env k) ((line_at al n (r ∷ []) o).tree at) ≡ Ok (scope (names_after n (r ∷ []) o) (defined n env r.1 o) (suc k), record { id = record { 0 = k }; results = results_renumbered (length n.rows + base) (r ∷ []); kind = kind_renumbered (number_in base n.rows) o })
+  line_found alias al n env k r o s b lt ms h at =
+      let none = fresh_result n.args n.results env (small_names k n b (omega arith)) s.canon in
+      let wide = canon_more n.args n.results n.args (n.results + 1) (omega arith) (omega arith) env s.canon in
+      let room = lt-ltb k 65536 (omega arith) in
+      let kind = kind_found alias al n env k r.1 o s wide b lt ms h in
+      let len = length_last n.rows (row_of r.0 (Result n.results) r.1) in
+      let y : base + length (n.rows ++ row_of r.0 (Result n.results) r.1 ∷ []) ≡ suc (base + length n.rows) = omega (arith, len) in
+      let z : length n.rows + base ≡ base + length n.rows = omega arith in
+      rw (none, room, kind, y, z) refl
+
+  line_standing : (n : Names) (env : List Entry) (k : ℕ) (r : ValueId × Ty) (o : OpKind) → Standing n env → Bound k n → k ≤ 65536 → IsPrintableKind n.rows r.1 o → Standing (names_after n (r ∷ []) o) (defined n env r.1 o)
+  line_standing n env k r o s b le h =
+      let none = fresh_result n.args n.results env (small_names k n b le) s.canon in
+      record {
+        agrees = agrees_more n.rows env (row_of r.0 (Result n.results) r.1) (meaning n r.1 o) s.agrees none (kind_usable n.rows env s.agrees r.1 o h) (meaning_held (base + length n.rows) r.1 (kind_renumbered (number_in base n.rows) o));
+        canon = all_last (λ e. IsCanon (n.args + inner_args o) (n.results + inner_results o + 1) e.name) env (entry (result_name n.results) (meaning n r.1 o))
+            (canon_more n.args n.results (n.args + inner_args o) (n.results + inner_results o + 1) (omega arith) (omega arith) env s.canon) (inr (n.results, omega arith, refl));
+      }
+
+  -- an operation with one result, by its results
+  pub by_results : (alias : List AliasShape) (al : List MapShape) (n : Names) (env : List Entry) (k : ℕ) (rs : List (ValueId × Ty)) (o : OpKind) → Standing n env → Bound k n → k < 65535 → MapsRead alias al (maps_used o) → IsPrintableLine n.rows rs o
+      → (env2 : List Entry) × ((at : ℕ) → statement_of alias (scope n env k) ((line_at al n rs o).tree at) ≡ Ok (scope (names_after n rs o) env2 (suc k), record { id = record { 0 = k }; results = results_renumbered (length n.rows + base) rs; kind = kind_renumbered (number_in base n.rows) o }))
+      × Standing (names_after n rs o) env2 × Bound (suc k) (names_after n rs o)
+  by_results alias al n env k [] o s b lt ms h = absurd h
+  by_results alias al n env k (r ∷ []) o s b lt ms h =
+      let z : k + 1 ≡ suc k = omega arith in
+      (defined n env r.1 o, line_found alias al n env k r o s b lt ms h, line_standing n env k r o s b (omega arith) h, subst (λ j. Bound j (names_after n (r ∷ []) o)) z (bound_next k n r o b h))
+  by_results alias al n env k (r ∷ (q ∷ rs)) o s b lt ms h = absurd h

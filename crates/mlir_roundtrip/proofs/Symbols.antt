@@ -1,4 +1,4 @@
--- Behind the @ of a symbol that was lexed stands a word.
+-- Behind the @ of a symbol that was lexed stands a word, and each token of a tree is of its class.
 use Rattle.std.proofs.Common.{◌≡◌, ℕ, ◌+◌, ◌-◌, suc, zero, Bool, true, false, cond, ◌&&◌, List, [], ◌∷◌, ◌++◌, take, drop, length, Ok, Err, refl, sym, ap, subst, ◌∙◌, arith, nat_eq}
 use Rattle.std.proofs.Common.{Result as Answer}
 use Rattle.std.specs.List.{AllByRecursion, list_all}
@@ -9,23 +9,26 @@ use Rattle.text_format.specs.declared.front.ByteClass.TheVariants.{WordByte, Val
 use Rattle.text_format.specs.declared.front.Front.{Front}
 use Rattle.text_format.specs.declared.front.Front.TheVariants as fronts
 use Rattle.text_format.specs.declared.span.Span.{Span}
+use Rattle.text_format.specs.declared.class.Class.{Class}
 use Rattle.text_format.specs.declared.class.Class.TheVariants as classes
+use Rattle.text_format.specs.declared.lexeme.Lexeme.TheVariants.{CloseParenthesis}
 use Rattle.text_format.specs.Bytes.{is_blank, is_digit, is_sign, is_mark, next_is, is_closed, is_shape_start, result_number, is_letter, is_word_byte, run, letter_next, sign_kind, shaped_front, word_front, value_front, sign_front, quoted_front, mark_front, comment_front, front}
 use Rattle.text_format.specs.Types.{is_word}
 use Rattle.text_format.specs.Token.{TokenShape}
 use Rattle.text_format.specs.Tokens as lexed
 use Rattle.text_format.specs.Tokens.{tokens_from, by_front, before_others, with_text}
 use Rattle.text_format.specs.Parsing.{tokens_in}
-use Rattle.text_format.specs.Classes.{is_kind}
-use Rattle.text_format.specs.Formats.{Item, Leaf}
+use Rattle.text_format.specs.Classes.{is_kind, fits}
+use Rattle.text_format.specs.Formats.{Item, Fixed, Leaf, spell_some, spell_many, list_before}
 use Rattle.text_format.specs.Laws.{IsItem, Matches}
-use Rattle.mlir_syntax.specs.declared.tree.Function.{Function}
-use Rattle.mlir_syntax.specs.declared.tree.Item as items
-use Rattle.mlir_syntax.specs.declared.tree.Item.TheVariants.{Bare, Inside}
-use Rattle.mlir_syntax.specs.declared.tree.Text.{Text}
-use Rattle.mlir_syntax.specs.declared.tree.Text.TheVariants.{First, Last}
-use Rattle.mlir_syntax.specs.Grammar as G
-use Rattle.mlir_read.specs.Resolve.{function_in, item_in}
+use Rattle.mlir_syntax.specs.declared.tree.operations.Statement.{Statement}
+use Rattle.mlir_syntax.specs.declared.tree.files.Function.{Function}
+use Rattle.mlir_syntax.specs.declared.tree.files.Item as items
+use Rattle.mlir_syntax.specs.declared.tree.files.Item.TheVariants as kinds
+use Rattle.mlir_syntax.specs.declared.tree.files.Text.{Text}
+use Rattle.mlir_syntax.specs.Operations as operation_grammar
+use Rattle.mlir_syntax.specs.Files as file_grammar
+use Rattle.mlir_read.specs.Resolve.{symbol_of}
 
 -- ---- one token
 
@@ -189,46 +192,93 @@ shapes_words source (t ∷ ts) h = (h.0, shapes_words source ts h.1)
 
 -- ---- the leaves of a tree
 
-abbrev LeafWord : Item → Type 0
-LeafWord (Leaf classes.Symbol u) = is_word (drop 1 u.text) ≡ true
-LeafWord i = Unit {0}
+-- what is known of a token of the class
+abbrev pub IsLeaf : Class → TokenShape → Type 0
+IsLeaf classes.Symbol u = is_word (drop 1 u.text) ≡ true
+IsLeaf c u = fits c u ≡ true
+
+-- what is known of the tokens that are kept
+abbrev pub AreLeaves : List Item → Type 0
+AreLeaves [] = Unit {0}
+AreLeaves (Fixed l ∷ is) = AreLeaves is
+AreLeaves (Leaf c u ∷ is) = IsLeaf c u × AreLeaves is
 
 is_symbol : (k : Kind) → is_kind Symbol k ≡ true → k ≡ Symbol
 is_symbol Symbol h = refl
 is_symbol k h = absurd (cc h)
 
-leaf_word : (i : Item) (t : TokenShape) → IsItem i t → IsSymbolWord t → LeafWord i
-leaf_word (Leaf classes.Symbol u) t m s = subst (λ (x : TokenShape). is_word (drop 1 x.text) ≡ true) m.1 (s (is_symbol t.kind (and_parts (is_kind Symbol t.kind) true m.0).0))
-leaf_word i t m s = tt
+leaf_is : (c : Class) (u t : TokenShape) → IsItem (Leaf c u) t → IsSymbolWord t → IsLeaf c u
+leaf_is classes.Symbol u t m s = subst (λ (x : TokenShape). is_word (drop 1 x.text) ≡ true) m.1 (s (is_symbol t.kind (and_parts (is_kind Symbol t.kind) true m.0).0))
+leaf_is c u t m s = subst (λ (x : TokenShape). fits c x ≡ true) m.1 m.0
 
-leaf_words : (is : List Item) (ts : List TokenShape) → Matches is ts → AllByRecursion IsSymbolWord ts → AllByRecursion LeafWord is
-leaf_words [] [] m s = tt
-leaf_words [] (t ∷ ts) m s = absurd m
-leaf_words (i ∷ is) [] m s = absurd m
-leaf_words (i ∷ is) (t ∷ ts) m s = (leaf_word i t m.0 s.0, leaf_words is ts m.1 s.1)
+leaves_are : (is : List Item) (ts : List TokenShape) → Matches is ts → AllByRecursion IsSymbolWord ts → AreLeaves is
+leaves_are [] [] m s = tt
+leaves_are [] (t ∷ ts) m s = absurd m
+leaves_are (i ∷ is) [] m s = absurd m
+leaves_are (Fixed l ∷ is) (t ∷ ts) m s = leaves_are is ts m.1 s.1
+leaves_are (Leaf c u ∷ is) (t ∷ ts) m s = (leaf_is c u t m.0 s.0, leaves_are is ts m.1 s.1)
 
-all_right : (xs ys : List Item) → AllByRecursion LeafWord (xs ++ ys) → AllByRecursion LeafWord ys
-all_right [] ys h = h
-all_right (x ∷ xs) ys h = all_right xs ys h.1
+pub leaves_right : (xs ys : List Item) → AreLeaves (xs ++ ys) → AreLeaves ys
+leaves_right [] ys h = h
+leaves_right (Fixed l ∷ xs) ys h = leaves_right xs ys h
+leaves_right (Leaf c u ∷ xs) ys h = leaves_right xs ys h.1
 
-all_left : (xs ys : List Item) → AllByRecursion LeafWord (xs ++ ys) → AllByRecursion LeafWord xs
-all_left [] ys h = tt
-all_left (x ∷ xs) ys h = (h.0, all_left xs ys h.1)
+pub leaves_left : (xs ys : List Item) → AreLeaves (xs ++ ys) → AreLeaves xs
+leaves_left [] ys h = tt
+leaves_left (Fixed l ∷ xs) ys h = leaves_left xs ys h
+leaves_left (Leaf c u ∷ xs) ys h = (h.0, leaves_left xs ys h.1)
 
-function_name : (f : Function) → AllByRecursion LeafWord (G.function.spell f) → is_word (drop 1 f.name.text) ≡ true
-unfolding G.function
-function_name f h = h.1.0
+-- ---- functions and files
 
-item_name : (i : items.Item) → AllByRecursion LeafWord (G.item.spell i) → is_word (drop 1 (function_in i).name.text) ≡ true
-unfolding G.item G.enclosed
-item_name (Bare f) h = function_name f h
-item_name (Inside e) h = function_name e.function (all_left (G.function.spell e.function) _ h.1.1)
+abbrev pub StatementIs : Statement → Type 0
+StatementIs s = AreLeaves (operation_grammar.statement.spell s)
 
-text_name : (t : Text) → AllByRecursion LeafWord (G.text.spell t) → is_word (drop 1 (function_in (item_in t)).name.text) ≡ true
-unfolding G.text G.aliased_item
-text_name (First a) h = item_name a.item (all_right (G.alias_line.spell a.alias) (G.item.spell a.item) h)
-text_name (Last i o) h = item_name i (all_left (G.item.spell i) _ h)
+-- its name is a word, and its tokens are of their classes
+pub record FunctionIs (f : Function) : Type 0 where
+  pub name : is_word (symbol_of f.name) ≡ true
+  pub statements : AllByRecursion StatementIs f.statements
+  pub returned : AreLeaves (file_grammar.returned.spell f.returned)
 
--- a function's name in a tree that the tokens of a text spell is a word
-pub spelled_name : (source : List ℕ) (t : Text) (ts : List Span) → lexed.tokens_of source ≡ Ok ts → Matches (G.text.spell t) (tokens_in source ts) → is_word (drop 1 (function_in (item_in t)).name.text) ≡ true
-spelled_name source t ts e m = text_name t (leaf_words (G.text.spell t) (tokens_in source ts) m (shapes_words source ts (symbols (length source) 0 source source ts refl e)))
+abbrev pub ItemIs : items.Item → Type 0
+ItemIs (kinds.Alias a) = Unit {0}
+ItemIs (kinds.Function f) = FunctionIs f
+ItemIs (kinds.Module m) = AllByRecursion FunctionIs m.functions
+
+statements_are : (ss : List Statement) → AreLeaves (spell_many operation_grammar.statement ss) → AllByRecursion StatementIs ss
+statements_are [] h = tt
+statements_are (s ∷ ss) h = (leaves_left (operation_grammar.statement.spell s) (spell_many operation_grammar.statement ss) h, statements_are ss (leaves_right (operation_grammar.statement.spell s) (spell_many operation_grammar.statement ss) h))
+
+function_is : (f : Function) → AreLeaves (file_grammar.function.spell f) → FunctionIs f
+unfolding file_grammar.function
+function_is f h =
+    let params = leaves_right ((list_before CloseParenthesis file_grammar.param).spell f.params) _ h.1.1 in
+    let body = leaves_right (spell_some file_grammar.result_types f.results) _ params in
+    let end = leaves_right (spell_many operation_grammar.statement f.statements) _ body in
+    record {
+      name = h.1.0;
+      statements = statements_are f.statements (leaves_left (spell_many operation_grammar.statement f.statements) _ body);
+      returned = leaves_right (file_grammar.return_name.spell f.return_name) (file_grammar.returned.spell f.returned) end;
+    }
+
+functions_are : (fs : List Function) → AreLeaves (spell_many file_grammar.function fs) → AllByRecursion FunctionIs fs
+functions_are [] h = tt
+functions_are (f ∷ fs) h =
+    (function_is f (leaves_left (file_grammar.function.spell f) (spell_many file_grammar.function fs) h), functions_are fs (leaves_right (file_grammar.function.spell f) (spell_many file_grammar.function fs) h))
+
+item_is : (i : items.Item) → AreLeaves (file_grammar.item.spell i) → ItemIs i
+unfolding file_grammar.item file_grammar.enclosed
+item_is (kinds.Alias a) h = tt
+item_is (kinds.Function f) h = function_is f h
+item_is (kinds.Module m) h = functions_are m.functions (leaves_left (spell_many file_grammar.function m.functions) _ h.1)
+
+items_are : (is : List items.Item) → AreLeaves (spell_many file_grammar.item is) → AllByRecursion ItemIs is
+items_are [] h = tt
+items_are (i ∷ is) h = (item_is i (leaves_left (file_grammar.item.spell i) (spell_many file_grammar.item is) h), items_are is (leaves_right (file_grammar.item.spell i) (spell_many file_grammar.item is) h))
+
+text_is : (t : Text) → AreLeaves (file_grammar.text.spell t) → AllByRecursion ItemIs t.items
+unfolding file_grammar.text
+text_is t h = items_are t.items h
+
+-- in a tree that the tokens of a text spell, the functions' names are words, and the tokens are of their classes
+pub spelled_items : (source : List ℕ) (t : Text) (ts : List Span) → lexed.tokens_of source ≡ Ok ts → Matches (file_grammar.text.spell t) (tokens_in source ts) → AllByRecursion ItemIs t.items
+spelled_items source t ts e m = text_is t (leaves_are (file_grammar.text.spell t) (tokens_in source ts) m (shapes_words source ts (symbols (length source) 0 source source ts refl e)))

@@ -6,4 +6,4 @@
 
 mod law;
 
-pub use law::canonical_text_reads_back;
+pub use law::{aliases_read_back, canonical_text_reads_back};

@@ -1,6 +1,6 @@
 //! The syntax of a text: its tree, whose leaves are the tokens that were read.
 //!
-//! A [`Text`] is an alias and an [`Item`]; an item is a [`Function`], bare or in a module; a function
+//! A [`Text`] is a list of [`Item`]s: aliases and [`Function`]s, or aliases around one module of functions. A function
 //! is its signature, its [`Statement`]s and its return.
 #![tactic(auto)]
 
@@ -9,9 +9,13 @@ mod tree;
 mod whole;
 
 pub use tree::{
-    AliasLine, AliasUse, AliasedItem, BlockArg, BlockArgs, Empty, Enclosed, Function, Generic,
-    InputTypes, Item, NextArg, NextInput, NextType, Operands, Operation, Param, Region, ReturnName,
-    Statement, Step, Text,
+    AliasLine, BatchMatmul, BinaryStep, BlockArg, BlockArgs, Broadcast, CastStep, CompareStep,
+    Constant, ConstantStep, Conversion, DenseLiteral, DensePiece, Empty, Enclosed, Factors, Fill,
+    Function, Generic, IndexCastStep, IndexStep, InputTypes, Inputs, Item, IteratorType, Literal,
+    MapPiece, MapUse, Matmul, NextArg, NextInput, NextResult, NextType, NextValue, Operands,
+    Operation, Output, Param, Region, ResultTypes, ReturnName, ReturnType, Returned,
+    ReturnedValues, ScalarLiteral, SelectStep, SeveralResults, Sign, SignedNumber, SourceAndOutput,
+    Statement, Step, StepOperation, Text, Transpose, TypedNumber, WrittenMap,
 };
 pub use whole::read_tree;
 

@@ -1,6 +1,6 @@
 use crate::read_tree;
 use std::alloc::Global;
-use text_format::{Class, Lexeme, Parser, Position, Stopped, tokens};
+use text_format::{Class, Parser, Stopped, tokens};
 
 /// Where reading a short text ends, if there is memory.
 fn end_of(alloc: Global, text: &[u8]) -> Option<Stopped> {
@@ -13,7 +13,7 @@ fn end_of(alloc: Global, text: &[u8]) -> Option<Stopped> {
     };
     let mut parser = Parser::new(text, spans.as_slice());
     match read_tree(alloc, &mut parser) {
-        Ok(_) => parser.end(Class::Name(Position::Item, Lexeme::FuncFunc)),
+        Ok(_) => parser.end(Class::ItemStart),
         Err(_) => None,
     }
 }
@@ -21,14 +21,24 @@ fn end_of(alloc: Global, text: &[u8]) -> Option<Stopped> {
 #[test]
 fn texts(rt: HostRuntime) {
     for text in [
-        b"func.func @f(%a: tensor<3xi32>) -> tensor<3xi32> { return %a : tensor<3xi32> }".as_slice(),
-        b"module { func.func @f(%a: tensor<3xi32>) -> tensor<3xi32> { func.return %a : tensor<3xi32> } } #m = affine_map<(d0) -> (d0)>",
+        b"".as_slice(),
+        b"module { }",
+        b"func.func @f(%a: tensor<3xi32>) -> tensor<3xi32> { return %a : tensor<3xi32> }",
+        b"func.func @f() { return } #m = affine_map<(d0) -> (d0)> func.func @g(%a: tensor<i1>) { func.return }",
+        b"module { func.func @f(%a: tensor<2x3xi32>) -> (tensor<2x3xi32>, tensor<2x3xi32>) { return %a, %a : tensor<2x3xi32>, tensor<2x3xi32> } } #m = affine_map<(d0) -> (d0)>",
         b"#m = affine_map<(d0) -> (d0)> func.func @f() -> tensor<3xi32> { %e = tensor.empty() : tensor<3xi32> return %e : tensor<3xi32> }",
     ] {
         assert!(rt; end_of(rt.alloc(), text).is_none());
     }
-    match end_of(rt.alloc(), b"module { }") {
-        Some(stop) => assert_eq!(rt; stop.at, 9),
-        None => assert!(rt; false),
+    for (text, at) in [
+        (b"module { } }".as_slice(), 11),
+        (b"module { #m = ", 9),
+        (b"func.func @f() -> (tensor<i1>) { return }", 29),
+        (b"func.func @f() { return %a : }", 29),
+    ] {
+        match end_of(rt.alloc(), text) {
+            Some(stop) => assert_eq!(rt; stop.at, at),
+            None => assert!(rt; false),
+        }
     }
 }

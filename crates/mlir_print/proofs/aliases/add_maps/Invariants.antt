@@ -1,5 +1,5 @@
 use Rattle.std.proofs.Common.{◌≡◌, drop}
-use Rattle.mlir_print.specs.Parts.{with_texts}
+use Rattle.mlir_print.specs.MapParts.{with_texts}
 use Rattle.mlir_print.proofs.aliases.add_maps.Given as goal
 
 abbrev pub invariant-loop-map : goal.invariant-loop-map

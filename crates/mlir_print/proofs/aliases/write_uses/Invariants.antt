@@ -1,5 +1,5 @@
 use Rattle.std.proofs.Common.{◌≡◌, ◌++◌, [], drop}
-use Rattle.mlir_print.specs.Parts.{uses_text}
+use Rattle.mlir_print.specs.MapParts.{uses_text}
 use Rattle.mlir_print.proofs.aliases.write_uses.Given as goal
 
 abbrev pub invariant-loop-map : goal.invariant-loop-map

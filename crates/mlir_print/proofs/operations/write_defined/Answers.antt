@@ -1,6 +1,6 @@
-use Rattle.std.proofs.Common.{◌≡◌, ◌++◌, ◌∙◌, append_assoc}
+use Rattle.std.proofs.Common.{◌∙◌, append_assoc}
 use Rattle.std.proofs.lemmas.Result.{on_ok_weaker}
-use Rattle.mlir_print.specs.Parts.{defined_text}
+use Rattle.mlir_print.specs.OperationParts.{defined_text}
 use Rattle.mlir_print.proofs.operations.write_defined.Goals as goal
 
 pub returns : goal.returns

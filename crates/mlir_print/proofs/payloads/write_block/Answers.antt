@@ -1,6 +1,6 @@
-use Rattle.std.proofs.Common.{◌≡◌, ◌++◌, ◌∙◌, append_assoc}
+use Rattle.std.proofs.Common.{◌∙◌, append_assoc}
 use Rattle.std.proofs.lemmas.Result.{on_ok_weaker}
-use Rattle.mlir_print.specs.Parts.{block_text}
+use Rattle.mlir_print.specs.PayloadParts.{block_text}
 use Rattle.mlir_print.proofs.payloads.write_block.Goals as goal
 
 pub returns : goal.returns

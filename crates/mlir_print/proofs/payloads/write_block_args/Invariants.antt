@@ -1,5 +1,5 @@
 use Rattle.std.proofs.Common.{◌≡◌, ◌++◌, ◌+◌, [], drop}
-use Rattle.mlir_print.specs.Parts.{block_args_text}
+use Rattle.mlir_print.specs.PayloadParts.{block_args_text}
 use Rattle.mlir_print.proofs.payloads.write_block_args.Given as goal
 
 abbrev pub invariant-loop-elem : goal.invariant-loop-elem

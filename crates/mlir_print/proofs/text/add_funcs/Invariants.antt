@@ -1,5 +1,5 @@
 use Rattle.std.proofs.Common.{◌≡◌, drop}
-use Rattle.mlir_print.specs.Parts.{after_funcs_texts}
+use Rattle.mlir_print.specs.MapParts.{after_funcs_texts}
 use Rattle.mlir_print.proofs.text.add_funcs.Given as goal
 
 abbrev pub invariant-loop-func : goal.invariant-loop-func

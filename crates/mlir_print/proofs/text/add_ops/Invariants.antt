@@ -1,5 +1,5 @@
 use Rattle.std.proofs.Common.{◌≡◌, drop}
-use Rattle.mlir_print.specs.Parts.{after_ops_texts}
+use Rattle.mlir_print.specs.MapParts.{after_ops_texts}
 use Rattle.mlir_print.proofs.text.add_ops.Given as goal
 
 abbrev pub invariant-loop-op : goal.invariant-loop-op

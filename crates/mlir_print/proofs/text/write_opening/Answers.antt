@@ -1,4 +1,4 @@
-use Rattle.std.proofs.Common.{◌≡◌, ◌++◌, append_assoc}
+use Rattle.std.proofs.Common.{append_assoc}
 use Rattle.mlir_print.specs.Parts.{opening_text}
 use Rattle.mlir_print.proofs.text.write_opening.Goals as goal
 

@@ -1,8 +1,8 @@
 use Rattle.std.proofs.Common.{◌≡◌, drop}
-use Rattle.mlir_read.specs.Chain.{thread}
+use Rattle.mlir_lex.specs.Chain.{thread}
 use Rattle.mlir_read.specs.Scope.{IsSound}
-use Rattle.mlir_read.specs.Resolve.{statement_of, statements_of}
-use Rattle.mlir_read.proofs.Loops.{onto_with}
+use Rattle.mlir_read.specs.Operations.{statement_of, statements_of}
+use Rattle.mlir_lex.proofs.Loops.{onto_with}
 use Rattle.mlir_read.proofs.operations.read_statements.Given as goal
 
 abbrev pub invariant-loop-statement : goal.invariant-loop-statement

@@ -1,4 +1,4 @@
-use Rattle.std.proofs.Common.{◌≡◌, ◌∷◌, ◌++◌, [], length, ℕ, List, sym, ap, ◌∙◌, arith}
+use Rattle.std.proofs.Common.{◌≡◌, length, List, sym, ap, ◌∙◌, arith}
 use Rattle.mlir_print.specs.Names.{Row, row_of, spot}
 use Rattle.mlir_print.proofs.Spots.{added}
 use Rattle.mlir_print.proofs.names.Rows.add.Goals as goal

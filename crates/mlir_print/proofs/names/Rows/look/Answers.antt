@@ -1,4 +1,4 @@
-use Rattle.std.proofs.Common.{◌≡◌, ◌<◌, None, Some, ℕ, ◌-◌, List, sym, ap, ◌∙◌, arith, get_or}
+use Rattle.std.proofs.Common.{◌≡◌, Some, ℕ, ◌-◌, List, sym, ap, ◌∙◌, arith, get_or}
 use Rattle.mlir_print.specs.Names.{look, Row}
 use Rattle.mlir_print.proofs.Spots.{spot_at, none_spot}
 use Rattle.mlir_print.proofs.names.Rows.look.Goals as goal

@@ -1,8 +1,0 @@
-use Rattle.std.proofs.Common.{◌≡◌, ◌++◌, ◌∙◌, append_assoc}
-use Rattle.std.proofs.lemmas.Result.{on_ok_weaker}
-use Rattle.mlir_print.proofs.payloads.write_addition.Goals as goal
-
-pub returns : goal.returns
-returns c = on_ok_weaker c.write_elem.result
-    (λ e. e ∙ simp (c.in_ok-extend_from_slice-3.ensures.items, c.in_ok-write_local-2.ensures, c.in_ok-extend_from_slice-2.ensures.items, c.in_ok-write_local.ensures, c.in_ok-extend_from_slice.ensures.items, c.in_ok-write_name.ensures, append_assoc))
-    c.write_elem.ensures

@@ -1,0 +1,7 @@
+use Rattle.std.proofs.Common.{append_assoc}
+use Rattle.mlir_print.specs.StructuredParts.{broadcast_text}
+use Rattle.mlir_print.proofs.structured.write_broadcast.Goals as goal
+
+pub returns : goal.returns
+unfolding broadcast_text
+returns c = simp (c.in_ok-extend_from_slice-3.ensures.items, c.in_ok-write_axes.ensures, c.in_ok-extend_from_slice-2.ensures.items, c.in_ok-write_moved.ensures, c.in_ok-extend_from_slice.ensures.items, append_assoc)

@@ -1,0 +1,8 @@
+use Rattle.std.proofs.Common.{◌∙◌, append_assoc}
+use Rattle.std.proofs.lemmas.Result.{on_ok_weaker}
+use Rattle.mlir_print.specs.StructuredParts.{into_text}
+use Rattle.mlir_print.proofs.structured.write_into.Goals as goal
+
+pub returns : goal.returns
+unfolding into_text
+returns c = on_ok_weaker c.write_type.result (λ e. e ∙ simp (c.in_ok-extend_from_slice.ensures.items, c.in_ok-write_outs.ensures, append_assoc)) c.write_type.ensures
