@@ -1,0 +1,4 @@
+pub mod Fronts
+pub mod Ids
+pub mod Spots
+pub mod Words

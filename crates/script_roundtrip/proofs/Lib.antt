@@ -1,0 +1,10 @@
+pub mod Fitting
+pub mod Found
+pub mod Laws
+pub mod Readable
+pub mod Rounds
+pub mod Rows
+pub mod Shown
+pub mod Spaced
+pub mod Spelled
+pub mod Taken

@@ -1,0 +1,7 @@
+//! How each tree is read.
+
+mod lines;
+mod literals;
+mod results;
+mod steps;
+mod types;

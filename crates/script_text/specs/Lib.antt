@@ -1,0 +1,4 @@
+pub mod Canonical
+pub mod Names
+pub mod Steps
+pub mod Texts
