@@ -1,7 +1,7 @@
 -- What is written is read again.
 use Rattle.std.proofs.Common.{◌≡◌, ◌≤◌, arith, ℕ, Bool, true, false, cond, List, length, nat_lt, Option, Some, None, Result, Ok, Err, refl, sym, ap, subst, ◌∙◌}
 use Rattle.std.proofs.lemmas.Bool.{ltb-false}
-use Rattle.mlir_ir.specs.declared.tree.Module.{Module}
+use Rattle.mlir_file.specs.declared.file.File.{File}
 use Rattle.mlir_ir.specs.declared.tree.OpId.{OpId}
 use Rattle.mlir_ir.specs.declared.tree.Which.TheVariants.{Bytes}
 use Rattle.mlir_lex.specs.declared.read_error.ReadError.{ReadError}
@@ -45,16 +45,16 @@ of_input : (o : Option (List ℕ)) (bytes : List ℕ) → output_of (input_of o)
 of_input None bytes e = absurd (cc e)
 of_input (Some text) bytes e = let p = of_size (nat_lt 4194304 (length text)) text bytes refl e in (text, refl, p.0, p.1)
 
-of_rules : (m : Module) (o : Option (Rule × OpId)) (bytes : List ℕ) → printed_unless o m ≡ Ok bytes → (o ≡ None) × (text_of m ≡ bytes)
-of_rules m None bytes e = (refl, cc e)
-of_rules m (Some x) bytes e = absurd (cc e)
+of_rules : (f : File) (o : Option (Rule × OpId)) (bytes : List ℕ) → printed_unless o f ≡ Ok bytes → (o ≡ None) × (text_of f ≡ bytes)
+of_rules f None bytes e = (refl, cc e)
+of_rules f (Some x) bytes e = absurd (cc e)
 
-of_reading : (source : List ℕ) (r : Result Module ReadError) (bytes : List ℕ) → reading source ≡ r → printed source r ≡ Ok bytes
-    → (m : Module) × (reading source ≡ Ok m) × (first_broken m ≡ None) × (text_of m ≡ bytes)
-of_reading source (Ok m) bytes l e = let r = of_rules m (first_broken m) bytes e in (m, l, r.0, r.1)
+of_reading : (source : List ℕ) (r : Result File ReadError) (bytes : List ℕ) → reading source ≡ r → printed source r ≡ Ok bytes
+    → (f : File) × (reading source ≡ Ok f) × (first_broken f.module ≡ None) × (text_of f ≡ bytes)
+of_reading source (Ok f) bytes l e = let r = of_rules f (first_broken f.module) bytes e in (f, l, r.0, r.1)
 of_reading source (Err x) bytes l e = absurd (cc e)
 
-of_processed : (source bytes : List ℕ) → processed source ≡ Ok bytes → (m : Module) × (reading source ≡ Ok m) × (first_broken m ≡ None) × (text_of m ≡ bytes)
+of_processed : (source bytes : List ℕ) → processed source ≡ Ok bytes → (f : File) × (reading source ≡ Ok f) × (first_broken f.module ≡ None) × (text_of f ≡ bytes)
 unfolding processed
 of_processed source bytes e = of_reading source (reading source) bytes refl e
 
@@ -64,6 +64,6 @@ reads_again words files e =
     let w = of_words files (asked_file words) v.0 v.1 in
     let i = of_input (files w.0) v.0 w.2 in
     let p = of_processed i.0 v.0 i.3 in
-    let st = found_in i.0 (Ok (record { «module» = p.0 })) p.1 in
+    let st = found_in i.0 (Ok p.0) p.1 in
     let out : text_of p.0 ≡ (answer words files).out = p.3 ∙ sym (ap (λ x. (answer_of x).out) v.1) in
     (w.0, i.0, p.0, w.1, i.1, st, subst (λ (b : List ℕ). StandsFor b p.0) out (reads_back i.0 p.0 (omega (arith, i.2)) st), p.2)

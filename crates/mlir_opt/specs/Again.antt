@@ -1,12 +1,12 @@
--- What is written is read again as the module that was read, which verifies.
+-- What is written is read again as the file that was read, whose module verifies.
 use Rattle.std.specs.Prelude.{◌≡◌, ℕ, List, Some}
-use Rattle.mlir_ir.specs.declared.tree.Module.{Module}
+use Rattle.mlir_file.specs.declared.file.File.{File}
 use Rattle.mlir_read.specs.Reading.{StandsFor}
 use Rattle.mlir_verify.specs.Rules.{IsVerified}
 use Rattle.mlir_streams.specs.Shelves.{Files}
 use Rattle.mlir_opt.specs.Answer.{answer, asked_file}
 
--- The file that the words ask for stands for a module that verifies, and the stated bytes stand for the same module.
+-- What the words ask for stands for a file whose module verifies, and the stated bytes stand for the same file.
 abbrev pub ReadsAgain : List (List ℕ) → Files → Type 0
 ReadsAgain words files =
-    (name : List ℕ) × (text : List ℕ) × (m : Module) × (asked_file words ≡ Some name) × (files name ≡ Some text) × StandsFor text m × StandsFor (answer words files).out m × IsVerified m
+    (name : List ℕ) × (text : List ℕ) × (f : File) × (asked_file words ≡ Some name) × (files name ≡ Some text) × StandsFor text f × StandsFor (answer words files).out f × IsVerified f.module

@@ -1,6 +1,6 @@
 -- What is made of a text: it is read, verified, and written in its canonical layout.
 use Rattle.std.specs.Prelude.{ℕ, List, take, Option, Some, None, Result, Ok, Err}
-use Rattle.mlir_ir.specs.declared.tree.Module.{Module}
+use Rattle.mlir_file.specs.declared.file.File.{File}
 use Rattle.mlir_ir.specs.declared.tree.OpId.{OpId}
 use Rattle.mlir_lex.specs.declared.read_error.ReadError.{ReadError}
 use Rattle.mlir_lex.specs.declared.read_error.ReadError.TheVariants as errors
@@ -31,13 +31,13 @@ read_refusal source (errors.Number at) = at_place source at faults.Number
 read_refusal source (errors.Limit which) = Limit which
 read_refusal source errors.Memory = Memory
 
--- the canonical text of a module, unless a rule fails in it
-abbrev pub printed_unless : Option (Rule × OpId) → Module → Result (List ℕ) Refusal
-printed_unless None m = Ok (text_of m)
-printed_unless (Some x) m = Err (Verify x.0 x.1.0)
+-- the canonical text of a file, unless a rule fails in its module
+abbrev pub printed_unless : Option (Rule × OpId) → File → Result (List ℕ) Refusal
+printed_unless None f = Ok (text_of f)
+printed_unless (Some x) f = Err (Verify x.0 x.1.0)
 
-abbrev pub printed : List ℕ → Result Module ReadError → Result (List ℕ) Refusal
-printed source (Ok m) = printed_unless (first_broken m) m
+abbrev pub printed : List ℕ → Result File ReadError → Result (List ℕ) Refusal
+printed source (Ok f) = printed_unless (first_broken f.module) f
 printed source (Err e) = Err (read_refusal source e)
 
 -- the bytes that are written for a text, or why it is refused

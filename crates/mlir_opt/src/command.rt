@@ -207,7 +207,7 @@ pub fn mlir_opt<S: Shelf, O: Sink, E: Sink>(
         (S.faults shelf.old) (S.faults shelf.new) (O.faults out.old) (O.faults out.new)
         (O.written out.old) (O.written out.new) result }
 
-    // What is stated under status 0 is read again as the module that was read, which verifies.
+    // What is stated under status 0 is read again as the file that was read, whose module verifies.
     ensures again { (files : Files) → (answer (map string_bytes words.now) files).status ≡ 0
         → ReadsAgain (map string_bytes words.now) files }
 

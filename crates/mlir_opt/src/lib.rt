@@ -1,6 +1,6 @@
-//! One command over handed-in files and streams: the words are read, standard input is read to its
-//! end, its module is verified and printed, and the canonical text is written. A refusal writes one
-//! line and has a status of its own.
+//! One command over handed-in files and streams: the words are read, the file that they name is read
+//! to its end, its module is verified, and the canonical text of the module and of its script is
+//! written. A refusal writes one line and has a status of its own.
 //!
 //! The call is [`mlir_opt()`]. Its contract says the status, the bytes on `out` and the line on
 //! `err` for all words and files. They are the `answer` of `specs/Answer.antt`, over what is made

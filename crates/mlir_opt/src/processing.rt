@@ -6,7 +6,6 @@ ghost use Rattle.mlir_opt.specs.Steps.{ProcessIs, IsTextError};
 
 use crate::place::place_after;
 use crate::{Fault, TextError};
-use mlir_ir::Module;
 use mlir_print::file_text;
 use mlir_read::{File, ReadError, read_file};
 use mlir_verify::{Refused, verify};
@@ -45,17 +44,19 @@ fn text_error(text: &[u8], error: ReadError) -> TextError
     }
 }
 
-// The canonical text of a module, unless a rule fails in it.
-fn verified_text(alloc: Global, ir: Module) -> Result<Vec<u8>, TextError>
-    ensures { ProcessIs (printed_unless (first_broken ir) ir) result }
+// The canonical text of a file, unless a rule fails in its module.
+fn verified_text(alloc: Global, file: File) -> Result<Vec<u8>, TextError>
+    ensures { ProcessIs (printed_unless (first_broken file.module) file) result }
 {
-    let checked = match verify(alloc, ir) {
+    let File { module, script } = file;
+    let checked = match verify(alloc, module) {
         Ok(checked) => checked,
         Err(Refused::Rule { rule, op }) => return Err(TextError::Verify { rule, op: op.0 }),
         Err(Refused::Memory) => return Err(TextError::Memory),
     };
     let file = File {
         module: checked.into_module(),
+        script,
     };
     match file_text(alloc, &file) {
         Ok(text) => Ok(text.into_vec()),
@@ -70,7 +71,7 @@ pub fn process(alloc: Global, text: &[u8]) -> Result<Vec<u8>, TextError>
     ensures { ProcessIs (processed text.now) result }
 {
     match read_file(alloc, text) {
-        Ok(file) => verified_text(alloc, file.module),
+        Ok(file) => verified_text(alloc, file),
         Err(error) => Err(text_error(text, error)),
     }
 }

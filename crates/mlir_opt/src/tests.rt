@@ -171,6 +171,21 @@ module {
 }
 ";
 
+// A function and a script for it.
+const SCRIPTED: &str = "module {
+  func.func @none() {
+    return
+  }
+  module attributes {transform.with_named_sequence} {
+    transform.named_sequence @__transform_main(%arg0: !transform.any_op {transform.readonly}) {
+      %0 = transform.structured.match ops{[\"linalg.generic\"]} in %arg0 : (!transform.any_op) -> !transform.any_op
+      transform.structured.vectorize %0 : !transform.any_op
+      transform.yield
+    }
+  }
+}
+";
+
 #[test]
 fn texts_are_answered(rt: HostRuntime) -> Result<(), Fail> {
     let alloc = rt.alloc();
@@ -181,6 +196,7 @@ fn texts_are_answered(rt: HostRuntime) -> Result<(), Fail> {
         (SEVERAL_PRINTED, SEVERAL_PRINTED, ""),
         (CONSTANTS, CONSTANTS_PRINTED, ""),
         (CONSTANTS_PRINTED, CONSTANTS_PRINTED, ""),
+        (SCRIPTED, SCRIPTED, ""),
         (
             "func.func @f() {\n  %c = arith.constant 256 : i8",
             "",
@@ -212,7 +228,7 @@ fn texts_are_answered(rt: HostRuntime) -> Result<(), Fail> {
         (
             "func.func @f() { return }\nmodule { }",
             "",
-            "error: 2:1: syntax\n",
+            "error: 2:8: syntax\n",
         ),
         (
             "func.func @f(%a: tensor<1x1x1x1x1x1x1x1x1xi8>)",

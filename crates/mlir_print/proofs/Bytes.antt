@@ -1,5 +1,5 @@
 -- The pieces of a canonical text have the bytes that are written.
-use Rattle.std.proofs.Common.{◌≡◌, ℕ, ◌+◌, suc, ℤ, pos, negsuc, decimal, Bool, true, false, List, [], ◌∷◌, ◌++◌, map, length, refl, sym, ap, ◌∙◌, append_assoc, codes}
+use Rattle.std.proofs.Common.{◌≡◌, ℕ, ◌+◌, suc, ℤ, pos, negsuc, decimal, Bool, true, false, List, [], ◌∷◌, ◌++◌, map, length, Option, Some, None, refl, sym, ap, ◌∙◌, append_assoc, codes}
 use Rattle.std.proofs.lemmas.List.{append-nil}
 use Rattle.payload_ops.specs.declared.kinds.ElemTy.{ElemTy}
 use Rattle.payload_ops.specs.declared.kinds.ElemTy.TheVariants.{Int}
@@ -18,7 +18,9 @@ use Rattle.mlir_ir.specs.declared.tree.ValueId.{ValueId}
 use Rattle.mlir_ir.specs.declared.tree.OpKind.{OpKind}
 use Rattle.mlir_ir.specs.declared.tree.OpKind.TheVariants as kinds
 use Rattle.mlir_ir.specs.declared.tree.Op.{Op}
-use Rattle.mlir_ir.specs.declared.tree.Module.{Module}
+use Rattle.script_read.specs.declared.script.Script.{Script}
+use Rattle.script_text.specs.Canonical.{sequence_at}
+use Rattle.mlir_file.specs.declared.file.File.{File}
 use Rattle.mlir_ir.specs.Shape.{FuncShape}
 use Rattle.text_format.specs.declared.class.Class.TheVariants.{TensorType}
 use Rattle.text_format.specs.declared.front.Kind.TheVariants.{Shaped}
@@ -33,11 +35,11 @@ use Rattle.mlir_print.specs.Names.{Names, Row, given_text, local_name, name_in, 
 use Rattle.mlir_print.specs.Maps.{alias_text, use_at, alias_line_at, alias_lines_at}
 use Rattle.std.specs.Fmt.{signed_decimal}
 use Rattle.mlir_print.specs.Operations.{operation_at, defined_at, line_at, last_at, next}
-use Rattle.mlir_print.specs.Canonical.{params_at, body_at, results_at, function_at, functions_at, module_at, text_with, aliases_of, text_of, names_in, next_result_at}
-use Rattle.mlir_print.specs.Writers.{Writer, each_of, commas, after_comma, made}
+use Rattle.mlir_print.specs.Canonical.{params_at, body_at, results_at, function_at, functions_at, closing_at, rest_at, module_at, text_with, aliases_of, text_of, names_in, next_result_at}
+use Rattle.text_format.specs.Writers.{Writer, each_of, commas, after_comma, made}
 use Rattle.mlir_print.specs.MapParts.{use_text, uses_text, alias_line_text, alias_lines_text, after_funcs_texts}
 use Rattle.mlir_print.specs.OperationParts.{operation_text, defined_text, line_text_by, line_text}
-use Rattle.mlir_print.specs.Parts.{params_text, body_text, results_text, opening_text, signature_text, func_text, function_text, functions_text, module_text, whole_text, result_types_text}
+use Rattle.mlir_print.specs.Parts.{params_text, body_text, results_text, opening_text, signature_text, func_text, function_text, functions_text, rest_text, module_text, whole_text, result_types_text}
 use Rattle.mlir_print.specs.Returns.{values_text, types_text, returned_text, return_text, closed_at, next_value_at, return_type_at, returned_at, return_at}
 use Rattle.mlir_print.proofs.Texts.{funcs_texts}
 use Rattle.mlir_print.proofs.PayloadBytes.{bytes_append, alias_line_bytes}
@@ -115,8 +117,18 @@ functions_bytes al [] = refl
 functions_bytes al (f ∷ fs) = ap (λ (t : List ℕ). codes "\n  " ++ t) (bytes_append (function_at al f).pieces (each_of (functions_at al fs)).pieces
     ∙ ap (λ (t : List ℕ). t ++ bytes_of (each_of (functions_at al fs)).pieces) (function_bytes al f) ∙ ap (λ (t : List ℕ). function_text (map text_of_map al) f ++ t) (functions_bytes al fs))
 
-module_bytes : (al : List MapShape) (fs : List FuncShape) → bytes_of (module_at al fs).pieces ≡ module_text (map text_of_map al) fs
-module_bytes al fs = ap (λ (t : List ℕ). codes "module {" ++ t) (bytes_append (each_of (functions_at al fs)).pieces _ ∙ ap (λ (t : List ℕ). t ++ codes "\n}\n") (functions_bytes al fs))
+script_bytes : (ps : List Piece) → bytes_of ((ps ++ (Gap (codes "\n  ") ∷ Fixed CloseBrace ∷ [])) ++ closing_at.pieces) ≡ bytes_of ps ++ codes "\n  }\n}\n"
+script_bytes ps =
+    bytes_append (ps ++ (Gap (codes "\n  ") ∷ Fixed CloseBrace ∷ [])) closing_at.pieces ∙ ap (λ (t : List ℕ). t ++ codes "\n}\n") (bytes_append ps (Gap (codes "\n  ") ∷ Fixed CloseBrace ∷ [])) ∙ append_assoc (bytes_of ps) (codes "\n  }") (codes "\n}\n")
+
+rest_bytes : (script : Option Script) → bytes_of (rest_at script).pieces ≡ rest_text script
+rest_bytes None = refl
+rest_bytes (Some s) = ap (λ (t : List ℕ). codes "\n  module attributes {transform.with_named_sequence} {\n    " ++ t) (script_bytes (sequence_at 2 s).pieces)
+
+module_bytes : (al : List MapShape) (fs : List FuncShape) (script : Option Script) → bytes_of (module_at al fs script).pieces ≡ module_text (map text_of_map al) fs script
+module_bytes al fs script =
+    ap (λ (t : List ℕ). codes "module {" ++ t) (bytes_append (each_of (functions_at al fs)).pieces (rest_at script).pieces ∙ ap (λ (t : List ℕ). t ++ bytes_of (rest_at script).pieces) (functions_bytes al fs)
+    ∙ ap (λ (t : List ℕ). functions_text (map text_of_map al) fs ++ t) (rest_bytes script))
 
 -- the aliases, and then more items
 items_bytes : (n : ℕ) (ms : List MapShape) (ws : List (Writer Item)) → bytes_of (each_of (map (made items.Alias) (alias_lines_at n ms) ++ ws)).pieces ≡ alias_lines_text n (map text_of_map ms) ++ bytes_of (each_of ws).pieces
@@ -126,10 +138,10 @@ items_bytes n (m ∷ ms) ws = bytes_append (alias_line_at n m).pieces (each_of (
     ∙ ap (λ (t : List ℕ). alias_line_text n (text_of_map m) ++ t) (items_bytes (n + 1) ms ws)
     ∙ sym (append_assoc (alias_line_text n (text_of_map m)) (alias_lines_text (n + 1) (map text_of_map ms)) (bytes_of (each_of ws).pieces))
 
-with_bytes : (al : List MapShape) (fs : List FuncShape) → bytes_of (text_with al fs).pieces ≡ whole_text (map text_of_map al) fs
-with_bytes al fs = items_bytes 0 al (made items.Module (module_at al fs) ∷ [])
-    ∙ ap (λ (t : List ℕ). alias_lines_text 0 (map text_of_map al) ++ t) (bytes_append (module_at al fs).pieces [] ∙ append-nil (bytes_of (module_at al fs).pieces) ∙ module_bytes al fs)
+with_bytes : (al : List MapShape) (fs : List FuncShape) (script : Option Script) → bytes_of (text_with al fs script).pieces ≡ whole_text (map text_of_map al) fs script
+with_bytes al fs script = items_bytes 0 al (made items.Module (module_at al fs script) ∷ [])
+    ∙ ap (λ (t : List ℕ). alias_lines_text 0 (map text_of_map al) ++ t) (bytes_append (module_at al fs script).pieces [] ∙ append-nil (bytes_of (module_at al fs script).pieces) ∙ module_bytes al fs script)
 
-pub text_bytes : (m : Module) → text_of m ≡ whole_text (after_funcs_texts [] m.funcs) m.funcs
+pub text_bytes : (f : File) → text_of f ≡ whole_text (after_funcs_texts [] f.module.funcs) f.module.funcs f.script
 unfolding text_of
-text_bytes m = with_bytes (aliases_of m) m.funcs ∙ ap (λ (ts : List (List ℕ)). whole_text ts m.funcs) (sym (funcs_texts [] m.funcs))
+text_bytes f = with_bytes (aliases_of f) f.module.funcs f.script ∙ ap (λ (ts : List (List ℕ)). whole_text ts f.module.funcs f.script) (sym (funcs_texts [] f.module.funcs))

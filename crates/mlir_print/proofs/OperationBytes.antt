@@ -26,7 +26,7 @@ use Rattle.mlir_print.specs.Generics.{iterator_text, iterator_at, next_input_at,
 use Rattle.mlir_print.specs.Structured.{fill_at, factors_at, moved_at, axis_at, transpose_at, broadcast_at}
 use Rattle.mlir_print.specs.Operations.{scalar_if, constant_if, generic_if, empty_if, operation_at}
 use Rattle.mlir_print.specs.Returns.{values_text, types_text}
-use Rattle.mlir_print.specs.Writers.{Writer, each_of, commas, after_comma}
+use Rattle.text_format.specs.Writers.{Writer, each_of, commas, after_comma}
 use Rattle.mlir_print.specs.MapParts.{uses_text}
 use Rattle.mlir_print.specs.PayloadParts.{region_text}
 use Rattle.mlir_print.specs.GenericParts.{ins_text, outs_text, operands_text, iterators_text, maps_text, traits_text, head_text, tail_text, generic_text}

@@ -36,7 +36,7 @@ use Rattle.affine_text.proofs.CanonicalBytes.{map_bytes}
 use Rattle.mlir_print.specs.Literals.{number_at, truth_text, literal_if, literal_at, literal_text_if, literal_text}
 use Rattle.mlir_print.specs.Payloads.{next_args_at, block_args_at, type_in as arg_type_in, operation_at as step_operation_at, step_at, steps_at, region_at}
 use Rattle.std.specs.Fmt.{signed_decimal}
-use Rattle.mlir_print.specs.Writers.{Writer, each_of, commas, after_comma, made}
+use Rattle.text_format.specs.Writers.{Writer, each_of, commas, after_comma, made}
 use Rattle.mlir_print.specs.MapParts.{use_text, uses_text, alias_line_text, alias_lines_text, after_funcs_texts}
 use Rattle.mlir_print.specs.PayloadParts.{block_args_text, local_text, conversion_text, operation_text as step_operation_text, step_text, steps_text, block_text, region_text}
 use Rattle.mlir_print.proofs.Texts.{alias_is, funcs_texts}

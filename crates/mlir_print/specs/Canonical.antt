@@ -4,12 +4,11 @@ use Rattle.affine_maps.specs.Shape.{MapShape}
 use Rattle.mlir_ir.specs.declared.tree.Ty.{Ty}
 use Rattle.mlir_ir.specs.declared.tree.ValueId.{ValueId}
 use Rattle.mlir_ir.specs.declared.tree.Op.{Op}
-use Rattle.mlir_ir.specs.declared.tree.Module.{Module}
 use Rattle.mlir_ir.specs.Shape.{FuncShape}
 use Rattle.text_format.specs.declared.class.Class.TheVariants.{Exactly, Name, NewValue, Symbol}
 use Rattle.text_format.specs.declared.class.Position.TheVariants.{Item as ItemPlace}
 use Rattle.text_format.specs.declared.front.Kind.TheVariants as tokens
-use Rattle.text_format.specs.declared.lexeme.Lexeme.TheVariants.{OpenParenthesis, CloseParenthesis, OpenBrace, CloseBrace, Comma, Colon, Arrow, Module as ModuleWord, FuncFunc}
+use Rattle.text_format.specs.declared.lexeme.Lexeme.TheVariants.{OpenParenthesis, CloseParenthesis, OpenBrace, CloseBrace, Comma, Colon, Arrow, Module as ModuleWord, FuncFunc, Attributes, WithNamedSequence}
 use Rattle.text_format.specs.Pieces.{Gap, Fixed, bytes_of}
 use Rattle.mlir_syntax.specs.declared.tree.files.Param.{Param}
 use Rattle.mlir_syntax.specs.declared.tree.operations.Statement.{Statement}
@@ -17,17 +16,24 @@ use Rattle.mlir_syntax.specs.declared.tree.files.NextResult.{NextResult}
 use Rattle.mlir_syntax.specs.declared.tree.files.ResultTypes.{ResultTypes}
 use Rattle.mlir_syntax.specs.declared.tree.files.ResultTypes.TheVariants.{One, Several}
 use Rattle.mlir_syntax.specs.declared.tree.files.Function.{Function}
+use Rattle.mlir_syntax.specs.declared.tree.files.ScriptModule.{ScriptModule}
+use Rattle.mlir_syntax.specs.declared.tree.files.ModuleRest.{ModuleRest}
+use Rattle.mlir_syntax.specs.declared.tree.files.ModuleRest.TheVariants as rests
 use Rattle.mlir_syntax.specs.declared.tree.files.Enclosed.{Enclosed}
 use Rattle.mlir_syntax.specs.declared.tree.files.Item.{Item}
 use Rattle.mlir_syntax.specs.declared.tree.files.Item.TheVariants as items
 use Rattle.mlir_syntax.specs.declared.tree.files.Text.{Text}
+use Rattle.text_format.specs.Token.{TokenShape}
+use Rattle.script_read.specs.declared.script.Script.{Script}
+use Rattle.script_text.specs.Canonical.{sequence_at}
+use Rattle.mlir_file.specs.declared.file.File.{File}
 use Rattle.mlir_print.specs.declared.names.Given.TheVariants.{Argument}
 use Rattle.mlir_print.specs.Types.{ty_text}
 use Rattle.mlir_print.specs.Names.{Names, nothing, given_text, with_argument}
 use Rattle.mlir_print.specs.Maps.{with_funcs, alias_lines_at}
 use Rattle.mlir_print.specs.Returns.{type_at, Ending, no_ending, closed_at}
 use Rattle.mlir_print.specs.Operations.{line_at, last_at, next}
-use Rattle.mlir_print.specs.Writers.{Writer, put, keep, lay, gap, space, lay_after, pair, made, each_of, commas, ◌▷◌}
+use Rattle.text_format.specs.Writers.{Writer, put, keep, lay, gap, space, lay_after, pair, made, each_of, commas, ◌▷◌}
 
 -- ---- functions (MLIR Func dialect, "func.func")
 
@@ -82,24 +88,38 @@ function_at aliases f = made (λ x. record { keyword = x.0; name = x.1.0; params
 abbrev pub functions_at : List MapShape → List FuncShape → List (Writer Function)
 functions_at aliases fs = map (λ f. gap (codes "\n  ") (function_at aliases f)) fs
 
-abbrev pub module_at : List MapShape → List FuncShape → Writer Enclosed
-module_at aliases fs = made (λ x. record { keyword = x.0; functions = x.1.0; close = x.1.1 }) ▷
-    pair (keep Exactly ModuleWord) ▷ space ▷ lay OpenBrace ▷ pair (each_of (functions_at aliases fs)) ▷ gap (codes "\n") ▷ lay_after (keep (Name ItemPlace) CloseBrace) (Gap (codes "\n") ∷ [])
+-- a script, in a module of its own
+abbrev pub script_module_at : Script → Writer ScriptModule
+script_module_at s = made (λ x. record { keyword = x.0; script = x.1 }) ▷ pair (keep Exactly ModuleWord) ▷ space ▷ lay Attributes ▷ space ▷ lay OpenBrace ▷ lay WithNamedSequence ▷ lay CloseBrace ▷ space ▷ lay OpenBrace ▷
+    gap (codes "\n    ") ▷ lay_after (sequence_at 2 s) (Gap (codes "\n  ") ∷ Fixed CloseBrace ∷ [])
+
+-- the brace that closes the module
+abbrev pub closing_at : Writer TokenShape
+closing_at = gap (codes "\n") ▷ lay_after (keep (Name ItemPlace) CloseBrace) (Gap (codes "\n") ∷ [])
+
+-- what stands behind the functions of a module
+abbrev pub rest_at : Option Script → Writer ModuleRest
+rest_at None = made rests.End closing_at
+rest_at (Some s) = made (λ x. rests.Nested x.0 (record { functions = []; close = x.1 })) ▷ pair (gap (codes "\n  ") (script_module_at s)) closing_at
+
+abbrev pub module_at : List MapShape → List FuncShape → Option Script → Writer Enclosed
+module_at aliases fs script = made (λ x. record { keyword = x.0; attributes = None; brace = x.1.0; functions = x.1.1.0; rest = x.1.1.1 }) ▷
+    pair (keep Exactly ModuleWord) ▷ space ▷ pair (keep Exactly OpenBrace) ▷ pair (each_of (functions_at aliases fs)) ▷ rest_at script
 
 -- ---- files
 
 -- the aliases of maps that are used, in the order of first use, and then the module
-abbrev pub items_at : List MapShape → List FuncShape → List (Writer Item)
-items_at aliases fs = map (made items.Alias) (alias_lines_at 0 aliases) ++ made items.Module (module_at aliases fs) ∷ []
+abbrev pub items_at : List MapShape → List FuncShape → Option Script → List (Writer Item)
+items_at aliases fs script = map (made items.Alias) (alias_lines_at 0 aliases) ++ made items.Module (module_at aliases fs script) ∷ []
 
-abbrev pub text_with : List MapShape → List FuncShape → Writer Text
-text_with aliases fs = made (λ is. record { items = is }) (each_of (items_at aliases fs))
+abbrev pub text_with : List MapShape → List FuncShape → Option Script → Writer Text
+text_with aliases fs script = made (λ is. record { items = is }) (each_of (items_at aliases fs script))
 
-abbrev pub aliases_of : Module → List MapShape
-aliases_of m = with_funcs [] m.funcs
+abbrev pub aliases_of : File → List MapShape
+aliases_of f = with_funcs [] f.module.funcs
 
-abbrev pub text_at : Module → Writer Text
-text_at m = text_with (aliases_of m) m.funcs
+abbrev pub text_at : File → Writer Text
+text_at f = text_with (aliases_of f) f.module.funcs f.script
 
-unfoldable pub text_of : Module → List ℕ
-text_of m = bytes_of (text_at m).pieces
+unfoldable pub text_of : File → List ℕ
+text_of f = bytes_of (text_at f).pieces

@@ -5,7 +5,7 @@ use Rattle.payload_ops.specs.Bits.{signed_of}
 use Rattle.mlir_ir.specs.declared.tree.Ty.{Ty}
 use Rattle.mlir_ir.specs.declared.tree.Ty.TheVariants.{Scalar, Tensor, Vector}
 use Rattle.mlir_ir.specs.declared.tree.Extent.{Extent}
-use Rattle.mlir_read.specs.Types.{counted, elements}
+use Rattle.mlir_resolve.specs.Types.{counted, elements}
 use Rattle.text_format.specs.declared.class.Class.TheVariants.{Exactly, Name, DenseToken, DenseType}
 use Rattle.text_format.specs.declared.class.Position.TheVariants.{Operation as OperationName}
 use Rattle.text_format.specs.declared.front.Kind.{Kind}
@@ -19,7 +19,7 @@ use Rattle.mlir_syntax.specs.declared.tree.constants.Literal.TheVariants as lite
 use Rattle.mlir_syntax.specs.declared.tree.constants.Constant.{Constant}
 use Rattle.mlir_print.specs.Types.{ty_text}
 use Rattle.mlir_print.specs.Literals.{truth_text, literal_at}
-use Rattle.mlir_print.specs.Writers.{Writer, put, keep, lay, space, lay_after, pair, made, each_of, no_token, ◌▷◌}
+use Rattle.text_format.specs.Writers.{Writer, put, keep, lay, space, lay_after, pair, made, each_of, no_token, ◌▷◌}
 
 -- ---- the tokens of a dense literal
 

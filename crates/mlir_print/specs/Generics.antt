@@ -25,7 +25,7 @@ use Rattle.mlir_print.specs.Names.{Row, name_in, type_in, kind_in}
 use Rattle.mlir_print.specs.Maps.{use_at}
 use Rattle.mlir_print.specs.Payloads.{region_at}
 use Rattle.mlir_print.specs.Returns.{type_at}
-use Rattle.mlir_print.specs.Writers.{Writer, put, keep, lay, gap, space, lay_after, pair, made, each_of, commas, ◌▷◌}
+use Rattle.text_format.specs.Writers.{Writer, put, keep, lay, gap, space, lay_after, pair, made, each_of, commas, ◌▷◌}
 
 abbrev pub iterator_text : Iter → List ℕ
 iterator_text Parallel = codes "\"parallel\""

@@ -1,4 +1,3 @@
-pub mod Writers
 pub mod Types
 pub mod Names
 pub mod Maps

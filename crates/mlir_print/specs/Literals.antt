@@ -13,7 +13,7 @@ use Rattle.mlir_syntax.specs.declared.tree.literals.SignedNumber.{SignedNumber}
 use Rattle.mlir_syntax.specs.declared.tree.literals.ScalarLiteral.{ScalarLiteral}
 use Rattle.mlir_syntax.specs.declared.tree.literals.ScalarLiteral.TheVariants as literals
 use Rattle.mlir_print.specs.Types.{elem_text}
-use Rattle.mlir_print.specs.Writers.{Writer, put, keep, lay, space, pair, made, ◌▷◌}
+use Rattle.text_format.specs.Writers.{Writer, put, keep, lay, space, pair, made, ◌▷◌}
 
 -- ---- with their trees
 

@@ -19,7 +19,7 @@ use Rattle.mlir_syntax.specs.declared.tree.maps.MapPiece.{MapPiece}
 use Rattle.mlir_syntax.specs.declared.tree.maps.WrittenMap.{WrittenMap}
 use Rattle.mlir_syntax.specs.declared.tree.maps.MapUse.{MapUse}
 use Rattle.mlir_syntax.specs.declared.tree.maps.MapUse.TheVariants as uses
-use Rattle.mlir_print.specs.Writers.{Writer, put, keep, lay, space, lay_after, pair, made, ◌▷◌}
+use Rattle.text_format.specs.Writers.{Writer, put, keep, lay, space, lay_after, pair, made, ◌▷◌}
 
 -- ---- a map as it is written (MLIR Affine dialect, "Affine Maps")
 

@@ -12,7 +12,7 @@ use Rattle.mlir_print.specs.contracts.names.Given as given
 use Rattle.text_format.specs.declared.front.Kind.{Kind}
 use Rattle.text_format.specs.declared.front.Kind.TheVariants.{Shaped}
 use Rattle.mlir_print.specs.Types.{ty_text, type_kind}
-use Rattle.mlir_print.specs.Writers.{unbuilt_text}
+use Rattle.text_format.specs.Writers.{unbuilt_text}
 
 abbrev pub given_text : Given → List ℕ
 given_text (Argument n) = codes "%arg" ++ decimal n

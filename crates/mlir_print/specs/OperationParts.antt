@@ -17,7 +17,7 @@ use Rattle.mlir_print.specs.Names.{Names, given_text}
 use Rattle.mlir_print.specs.Literals.{literal_text}
 use Rattle.mlir_print.specs.Constants.{words_text, dense_words}
 use Rattle.mlir_print.specs.Returns.{return_text}
-use Rattle.mlir_print.specs.Writers.{unbuilt_text}
+use Rattle.text_format.specs.Writers.{unbuilt_text}
 use Rattle.mlir_print.specs.GenericParts.{generic_text}
 use Rattle.mlir_print.specs.StructuredParts.{fill_text, matmul_text, batch_matmul_text, transpose_text, broadcast_text}
 

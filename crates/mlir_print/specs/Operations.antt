@@ -28,7 +28,7 @@ use Rattle.mlir_print.specs.Constants.{dense_words, dense_at, constant_at}
 use Rattle.mlir_print.specs.Generics.{generic_at}
 use Rattle.mlir_print.specs.Structured.{fill_at, matmul_at, batch_matmul_at, transpose_at, broadcast_at}
 use Rattle.mlir_print.specs.Returns.{type_at, return_text, Ending, no_ending, closed_at, return_at}
-use Rattle.mlir_print.specs.Writers.{Writer, put, keep, lay, space, lay_after, pair, made, unbuilt, no_token, ◌▷◌}
+use Rattle.text_format.specs.Writers.{Writer, put, keep, lay, space, lay_after, pair, made, unbuilt, no_token, ◌▷◌}
 
 -- ---- tensor.empty (MLIR Tensor dialect, "tensor.empty")
 

@@ -1,9 +1,12 @@
 -- The bytes of functions and whole texts, in the order in which they are written.
-use Rattle.std.specs.Prelude.{ℕ, List, [], ◌∷◌, ◌++◌, codes}
+use Rattle.std.specs.Prelude.{ℕ, List, [], ◌∷◌, ◌++◌, Option, Some, None, codes}
 use Rattle.mlir_ir.specs.declared.tree.Ty.{Ty}
 use Rattle.mlir_ir.specs.declared.tree.ValueId.{ValueId}
 use Rattle.mlir_ir.specs.declared.tree.Op.{Op}
 use Rattle.mlir_ir.specs.Shape.{FuncShape}
+use Rattle.text_format.specs.Pieces.{bytes_of}
+use Rattle.script_read.specs.declared.script.Script.{Script}
+use Rattle.script_text.specs.Canonical.{sequence_at}
 use Rattle.mlir_print.specs.declared.names.Given.TheVariants.{Argument}
 use Rattle.mlir_print.specs.Types.{ty_text}
 use Rattle.mlir_print.specs.Names.{Names, nothing, given_text, with_argument}
@@ -49,8 +52,12 @@ abbrev pub functions_text : List (List ℕ) → List FuncShape → List ℕ
 functions_text ts [] = []
 functions_text ts (f ∷ fs) = codes "\n  " ++ (function_text ts f ++ functions_text ts fs)
 
-abbrev pub module_text : List (List ℕ) → List FuncShape → List ℕ
-module_text ts fs = codes "module {" ++ (functions_text ts fs ++ codes "\n}\n")
+abbrev pub rest_text : Option Script → List ℕ
+rest_text None = codes "\n}\n"
+rest_text (Some s) = codes "\n  module attributes {transform.with_named_sequence} {\n    " ++ (bytes_of (sequence_at 2 s).pieces ++ codes "\n  }\n}\n")
 
-abbrev pub whole_text : List (List ℕ) → List FuncShape → List ℕ
-whole_text ts fs = alias_lines_text 0 ts ++ module_text ts fs
+abbrev pub module_text : List (List ℕ) → List FuncShape → Option Script → List ℕ
+module_text ts fs script = codes "module {" ++ (functions_text ts fs ++ rest_text script)
+
+abbrev pub whole_text : List (List ℕ) → List FuncShape → Option Script → List ℕ
+whole_text ts fs script = alias_lines_text 0 ts ++ module_text ts fs script

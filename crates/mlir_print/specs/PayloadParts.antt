@@ -9,15 +9,15 @@ use Rattle.payload_ops.specs.declared.step.StepOp.{StepOp}
 use Rattle.payload_ops.specs.declared.step.StepOp.TheVariants as ops
 use Rattle.payload_ops.specs.declared.step.PayloadStep.{PayloadStep}
 use Rattle.payload_ops.specs.Shape.{PayloadShape}
-use Rattle.mlir_read.specs.declared.words.Cast.{Cast}
-use Rattle.mlir_read.specs.declared.words.Cast.TheVariants as changes
-use Rattle.mlir_read.specs.Words.{binary_text, predicate_text, cast_text}
+use Rattle.mlir_resolve.specs.declared.words.Cast.{Cast}
+use Rattle.mlir_resolve.specs.declared.words.Cast.TheVariants as changes
+use Rattle.mlir_resolve.specs.Words.{binary_text, predicate_text, cast_text}
 use Rattle.mlir_print.specs.declared.names.Given.TheVariants.{Argument}
 use Rattle.mlir_print.specs.Types.{elem_text}
 use Rattle.mlir_print.specs.Names.{given_text, local_name}
 use Rattle.mlir_print.specs.Literals.{literal_text}
 use Rattle.mlir_print.specs.Payloads.{type_in}
-use Rattle.mlir_print.specs.Writers.{unbuilt_text}
+use Rattle.text_format.specs.Writers.{unbuilt_text}
 
 abbrev pub block_arg_text : ℕ → ElemTy → List ℕ
 block_arg_text a e = given_text (Argument a) ++ (codes ": " ++ elem_text e)

@@ -31,15 +31,15 @@ use Rattle.mlir_syntax.specs.declared.tree.steps.IndexCastStep.{IndexCastStep}
 use Rattle.mlir_syntax.specs.declared.tree.steps.IndexStep.{IndexStep}
 use Rattle.mlir_syntax.specs.declared.tree.steps.StepOperation.{StepOperation}
 use Rattle.mlir_syntax.specs.declared.tree.steps.StepOperation.TheVariants as operations
-use Rattle.mlir_read.specs.declared.words.Cast.{Cast}
-use Rattle.mlir_read.specs.declared.words.Cast.TheVariants as changes
-use Rattle.mlir_read.specs.Words.{binary_text, predicate_text, cast_text}
+use Rattle.mlir_resolve.specs.declared.words.Cast.{Cast}
+use Rattle.mlir_resolve.specs.declared.words.Cast.TheVariants as changes
+use Rattle.mlir_resolve.specs.Words.{binary_text, predicate_text, cast_text}
 use Rattle.mlir_print.specs.declared.names.Given.{Given}
 use Rattle.mlir_print.specs.declared.names.Given.TheVariants.{Argument}
 use Rattle.mlir_print.specs.Types.{elem_text}
 use Rattle.mlir_print.specs.Names.{given_text, local_name}
 use Rattle.mlir_print.specs.Literals.{literal_at}
-use Rattle.mlir_print.specs.Writers.{Writer, put, keep, lay, gap, space, lay_after, pair, made, each_of, unbuilt, unbuilt_text, no_token, ◌▷◌}
+use Rattle.text_format.specs.Writers.{Writer, put, keep, lay, gap, space, lay_after, pair, made, each_of, unbuilt, unbuilt_text, no_token, ◌▷◌}
 
 abbrev pub new_line : List ℕ
 new_line = codes "\n      "

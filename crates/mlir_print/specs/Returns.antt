@@ -16,7 +16,7 @@ use Rattle.mlir_syntax.specs.declared.tree.files.ReturnedValues.{ReturnedValues}
 use Rattle.mlir_syntax.specs.declared.tree.files.Returned.{Returned}
 use Rattle.mlir_syntax.specs.declared.tree.files.Returned.TheVariants.{Nothing, Values}
 use Rattle.mlir_print.specs.Names.{Row, name_in, type_in}
-use Rattle.mlir_print.specs.Writers.{Writer, put, keep, lay, gap, space, lay_after, pair, made, each_of, unbuilt, unbuilt_text, no_token, ◌▷◌}
+use Rattle.text_format.specs.Writers.{Writer, put, keep, lay, gap, space, lay_after, pair, made, each_of, unbuilt, unbuilt_text, no_token, ◌▷◌}
 
 -- ---- the bytes
 

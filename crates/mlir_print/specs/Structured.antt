@@ -20,7 +20,7 @@ use Rattle.mlir_print.specs.Names.{Row, name_in, type_in}
 use Rattle.mlir_print.specs.Literals.{number_at}
 use Rattle.mlir_print.specs.Generics.{output_at}
 use Rattle.mlir_print.specs.Returns.{type_at}
-use Rattle.mlir_print.specs.Writers.{Writer, put, keep, lay, space, lay_after, pair, made, commas, ◌▷◌}
+use Rattle.text_format.specs.Writers.{Writer, put, keep, lay, space, lay_after, pair, made, commas, ◌▷◌}
 
 -- `linalg.fill ins(%c : i32) outs(%o : T) -> T`
 abbrev pub fill_at : List Row → Ty → ValueId → ValueId → Writer Fill

@@ -12,7 +12,7 @@ ghost use Rattle.mlir_print.specs.PayloadParts.{block_arg_text, block_args_text,
 use crate::literals::write_literal;
 use crate::names::Given;
 use crate::types::{write_elem, write_name, write_number, write_unbuilt};
-use mlir_read::{Cast, binary_text, cast_text, predicate_text};
+use mlir_resolve::{Cast, binary_text, cast_text, predicate_text};
 use payload_ops::{Arg, BinOp, ElemTy, Memory, Payload, PayloadStep, Predicate, StepOp};
 
 /// A payload, and where the numbers of its arguments and of its results begin.

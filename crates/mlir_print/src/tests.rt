@@ -1,8 +1,9 @@
 use super::*;
 use affine_maps::{AffineMap, Expr};
+use mlir_file::File;
 use mlir_ir::{Extent, Func, Iter, Module, Op, OpId, OpKind, Ty, ValueId};
-use mlir_read::File;
 use payload_ops::{Arg, BinOp, ElemTy, List, Memory, Name, PayloadStep, StepOp, Width, payload};
+use script_text::{HandleId, Script, Step, StepKind};
 use std::alloc::Global;
 
 fn pair<T: Drop>(alloc: Global, first: T, second: T) -> Result<List<T>, Memory> {
@@ -86,8 +87,8 @@ fn returned(alloc: Global, value: u32) -> Result<Op, Memory> {
     })
 }
 
-/// The text of `@add` with this body.
-fn text_with(alloc: Global, body: List<Op>) -> Result<List<u8>, Memory> {
+/// The text of `@add` with this body, and of this script behind it.
+fn text_with(alloc: Global, body: List<Op>, script: Option<Script>) -> Result<List<u8>, Memory> {
     let width = Width::new(32).ok_or(Memory)?;
     let params = pair(
         alloc,
@@ -106,7 +107,7 @@ fn text_with(alloc: Global, body: List<Op>) -> Result<List<u8>, Memory> {
     let ir = Module {
         funcs: one(alloc, add)?,
     };
-    file_text(alloc, &File { module: ir })
+    file_text(alloc, &File { module: ir, script })
 }
 
 const ADDED: &[u8] = b"#map = affine_map<(d0) -> (d0)>
@@ -133,7 +134,7 @@ fn prints_an_addition(rt: HostRuntime) -> Result<(), Memory> {
         sum(alloc, width)?,
     )?;
     body.push(returned(alloc, 2)?)?;
-    assert_eq!(rt; text_with(alloc, body)?.as_slice(), ADDED);
+    assert_eq!(rt; text_with(alloc, body, None)?.as_slice(), ADDED);
     Ok(())
 }
 
@@ -154,6 +155,51 @@ fn prints_no_alias_without_a_map(rt: HostRuntime) -> Result<(), Memory> {
         empty(alloc, 0, row(alloc, 1048576, width)?)?,
         returned(alloc, 5)?,
     )?;
-    assert_eq!(rt; text_with(alloc, body)?.as_slice(), UNUSED);
+    assert_eq!(rt; text_with(alloc, body, None)?.as_slice(), UNUSED);
+    Ok(())
+}
+
+/// Loops over the generic operations, in tiles of two.
+fn tiling(alloc: Global) -> Result<Script, Memory> {
+    let found = Step {
+        results: one(alloc, HandleId(4))?,
+        kind: StepKind::Match {
+            names: one(alloc, Name::new(alloc, "linalg.generic")?)?,
+            inside: HandleId(6),
+        },
+    };
+    let tiled = Step {
+        results: pair(alloc, HandleId(8), HandleId(1))?,
+        kind: StepKind::TileFor {
+            target: HandleId(4),
+            sizes: one(alloc, 2)?,
+        },
+    };
+    Ok(Script {
+        root: HandleId(6),
+        steps: pair(alloc, found, tiled)?,
+    })
+}
+
+const SCRIPTED: &[u8] = b"module {
+  func.func @add(%arg0: tensor<3xi32>, %arg1: tensor<3xi32>) -> tensor<3xi32> {
+    return %arg0 : tensor<3xi32>
+  }
+  module attributes {transform.with_named_sequence} {
+    transform.named_sequence @__transform_main(%arg0: !transform.any_op {transform.readonly}) {
+      %0 = transform.structured.match ops{[\"linalg.generic\"]} in %arg0 : (!transform.any_op) -> !transform.any_op
+      %1:2 = transform.structured.tile_using_for %0 tile_sizes [2] : (!transform.any_op) -> (!transform.any_op, !transform.any_op)
+      transform.yield
+    }
+  }
+}
+";
+
+#[test]
+fn prints_a_script_in_a_module_of_its_own(rt: HostRuntime) -> Result<(), Memory> {
+    let alloc = rt.alloc();
+    let body = one(alloc, returned(alloc, 7)?)?;
+    let script = Some(tiling(alloc)?);
+    assert_eq!(rt; text_with(alloc, body, script)?.as_slice(), SCRIPTED);
     Ok(())
 }

@@ -1,17 +1,19 @@
-//! Functions and modules.
+//! Functions and files.
 
 ghost use Rattle.std.specs.Prelude.{◌≡◌, ◌++◌, ◌∷◌, [], OnOk, IfOk};
 ghost use Rattle.mlir_print.specs.Names.{nothing};
 ghost use Rattle.mlir_print.specs.Canonical.{after_params, text_of};
 ghost use Rattle.mlir_print.specs.MapParts.{after_ops_texts, after_funcs_texts, after_op_texts};
-ghost use Rattle.mlir_print.specs.Parts.{param_text, params_text, body_text, result_types_text, results_text, opening_text, signature_text, func_text, function_text, functions_text, module_text, whole_text};
+ghost use Rattle.mlir_print.specs.Parts.{param_text, params_text, body_text, result_types_text, results_text, opening_text, signature_text, func_text, function_text, functions_text, rest_text, module_text, whole_text};
 
 use crate::aliases::{Aliases, add_maps};
 use crate::names::{Given, Names};
 use crate::operations::{define, write_line};
 use crate::types::{write_name, write_type};
-use mlir_ir::{Func, Module, Op, OpKind, Ty, ValueId};
+use mlir_file::File;
+use mlir_ir::{Func, Op, OpKind, Ty, ValueId};
 use payload_ops::{List, Memory};
+use script_text::{Script, write_script};
 use std::alloc::Global;
 
 fn write_param(out: &mut Vec<u8>, names: &Names, ty: &Ty) -> Result<(), Memory>
@@ -192,29 +194,56 @@ fn add_funcs(aliases: &mut Aliases, funcs: &[Func]) -> Result<(), Memory>
     Ok(())
 }
 
+/// What stands behind the functions: a script in a module of its own, where there is one.
+fn write_rest(alloc: Global, out: &mut Vec<u8>, script: &Option<Script>) -> Result<(), Memory>
+    ensures { OnOk result (out.new.items ≡ out.old.items ++ rest_text script.now) }
+{
+    match script {
+        None => {
+            out.extend_from_slice(b"\n}\n")?;
+            Ok(())
+        }
+        Some(script) => {
+            out.extend_from_slice(
+                b"\n  module attributes {transform.with_named_sequence} {\n    ",
+            )?;
+            write_script(alloc, out, 2, script)?;
+            out.extend_from_slice(b"\n  }\n}\n")?;
+            Ok(())
+        }
+    }
+}
+
 fn write_module(
     alloc: Global,
     out: &mut Vec<u8>,
     aliases: &Aliases,
     funcs: &[Func],
+    script: &Option<Script>,
 ) -> Result<(), Memory>
-    ensures { OnOk result (out.new.items ≡ out.old.items ++ whole_text aliases.now funcs.now) }
+    ensures { OnOk result (out.new.items ≡ out.old.items ++ whole_text aliases.now funcs.now script.now) }
 {
     aliases.write_lines(out)?;
     out.extend_from_slice(b"module {")?;
     write_functions(alloc, out, aliases, funcs)?;
-    out.extend_from_slice(b"\n}\n")?;
+    write_rest(alloc, out, script)?;
     Ok(())
 }
 
-/// The canonical text of a module.
+/// The canonical text of a file.
 #[tactic(auto, using(crate::proofs::Bytes::text_bytes))]
-pub fn module_text(alloc: Global, ir: &Module) -> Result<List<u8>, Memory>
-    ensures { IfOk result (λ text. text ≡ text_of ir.now) }
+pub fn file_text(alloc: Global, file: &File) -> Result<List<u8>, Memory>
+    ensures { IfOk result (λ text. text ≡ text_of file.now) }
 {
     let mut aliases = Aliases::new(alloc);
-    add_funcs(&mut aliases, ir.funcs.as_slice())?;
+    add_funcs(&mut aliases, file.module.funcs.as_slice())?;
     let mut out = Vec::new(alloc);
-    write_module(alloc, &mut out, &aliases, ir.funcs.as_slice())?;
+    write_module(
+        alloc,
+        &mut out,
+        &aliases,
+        file.module.funcs.as_slice(),
+        &file.script,
+    )?;
     Ok(List::from_vec(out))
 }

@@ -3,7 +3,7 @@
 ghost use Rattle.std.specs.Prelude.{◌≡◌, ◌++◌, OnOk, decimal};
 ghost use Rattle.mlir_print.specs.Types.{ty_text, elem_text, extents_text, lanes_text};
 ghost use Rattle.mlir_print.specs.Names.{given_text};
-ghost use Rattle.mlir_print.specs.Writers.{unbuilt_text};
+ghost use Rattle.text_format.specs.Writers.{unbuilt_text};
 
 use crate::names::Given;
 use itoa::Buffer;

@@ -1,13 +1,3 @@
-pub mod AliasSpots
 pub mod Ascii
-mod Elements
 mod Items
-pub mod Fitting
-pub mod Keeps
-pub mod MapSymbols
-pub mod Nested
-pub mod Ranges
-pub mod Results
-pub mod Spots
-pub mod StillNew
 pub mod Whole

@@ -4,18 +4,16 @@ ghost use Rattle.std.specs.Prelude.{◌≡◌, ◌<◌, OnOk, [], ◌∷◌, map
 ghost use Rattle.std.specs.List.{list_all};
 ghost use Rattle.mlir_ir.specs.declared.tree.OpKind.TheVariants.{Return};
 ghost use Rattle.mlir_lex.specs.Chain.{Agree, Leaves};
-ghost use Rattle.mlir_read.specs.Scope.{IsSound, IsOpening};
+ghost use Rattle.mlir_resolve.specs.Scope.{IsSound, IsOpening};
 ghost use Rattle.mlir_read.specs.Resolve.{is_ascii, symbol_of, name_of, unknown, result_at, results_from, results_of, word_in, value_ids, more_return_types, returned_of, return_of, opened, body_of, function_of, IsFileSound};
 
 use crate::files::FileScope;
-use crate::maps::Aliases;
-use crate::name_list::NameList;
-use crate::names::{Names, Scope};
-use crate::operations::{read_statements, room};
-use crate::typing::type_at;
-use crate::values::{read_params, typed_as, value_id};
 use mlir_ir::{Func, Op, OpId, OpKind, Ty, ValueId, Which};
 use mlir_lex::{Fault, Refused};
+use mlir_resolve::{
+    Aliases, NameList, Names, Scope, read_params, read_statements, room, type_at, typed_as,
+    value_id,
+};
 use mlir_syntax::{
     Function, NextValue, ResultTypes, ReturnName, ReturnType, Returned, ReturnedValues,
     SeveralResults,

@@ -169,9 +169,9 @@ fn refuses_bytes_files_and_types(rt: HostRuntime) -> Result<(), Fail> {
         ("fun @f", ReadError::Unsupported(0)),
         ("return", ReadError::Syntax(0)),
         ("#m = affine_map<(d0) -> (d1)>", ReadError::Syntax(25)),
-        ("module { module", ReadError::Syntax(9)),
+        ("module { module", ReadError::Syntax(15)),
         ("module { modul", ReadError::Unsupported(9)),
-        ("module attributes", ReadError::Syntax(7)),
+        ("module attributes", ReadError::Syntax(17)),
         (
             "module { func.func @f(%a: tensor<2xi8>) -> tensor<2xi8> {  return %a : tensor<2xi8> } more",
             ReadError::Unsupported(86),
@@ -260,7 +260,11 @@ fn refuses_files_and_returns(rt: HostRuntime) -> Result<(), Fail> {
         ),
         (
             "func.func @f() { return } module { }",
-            ReadError::Syntax(26),
+            ReadError::Syntax(33),
+        ),
+        (
+            "func.func @f() { return } module attributes {transform.with_named_sequence} { }",
+            ReadError::Syntax(78),
         ),
         ("module { } module { }", ReadError::Syntax(11)),
         (

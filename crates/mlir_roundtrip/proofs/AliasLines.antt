@@ -1,6 +1,6 @@
 -- The lines of aliases: spelled, of their classes, and well spaced.
 use Rattle.std.proofs.Common.{◌≡◌, ◌<◌, ◌^◌, ℕ, zero, suc, ◌+◌, Bool, true, false, cond, nat_lt, List, [], ◌∷◌, ◌++◌, map, length, Some, None, refl, sym, subst, arith, append_assoc, codes}
-use Rattle.std.specs.Prelude.{position, unwrap_or}
+use Rattle.std.specs.Prelude.{unwrap_or}
 use Rattle.std.specs.List.{AllByRecursion, position_or_len}
 use Rattle.std.proofs.lemmas.Bool.{ltb-true}
 use Rattle.affine_maps.specs.Shape.{MapShape}
@@ -15,11 +15,11 @@ use Rattle.mlir_syntax.specs.declared.tree.files.Item.{Item}
 use Rattle.mlir_syntax.specs.declared.tree.files.Item.TheVariants as items
 use Rattle.mlir_syntax.specs.Files as file_grammar
 use Rattle.mlir_print.specs.Maps.{written_at, alias_line_at, alias_lines_at, alias_text, alias_number, alias_of, maps_used}
-use Rattle.mlir_print.specs.Writers.{Writer, each_of, made}
-use Rattle.mlir_roundtrip.specs.Maps.{IsPrintableMap, ArePrintableMaps, is_text_of}
-use Rattle.mlir_roundtrip.proofs.Leaves.{LeavesFit, both_fit}
+use Rattle.text_format.specs.Writers.{Writer, each_of, made}
+use Rattle.mlir_roundtrip.specs.Maps.{ArePrintableMaps, is_text_of}
+use Rattle.text_format.proofs.Written.{LeavesFit, both_fit}
 use Rattle.mlir_roundtrip.proofs.Maps.{written-w, written_fits, written_then}
-use Rattle.mlir_roundtrip.proofs.Writing.{IsWritten, AreWritten, put-w, lay-w, sp-w, pair-w, made-w, blank-w}
+use Rattle.text_format.proofs.Written.{IsWritten, AreWritten, put-w, lay-w, sp-w, pair-w, made-w, blank-w}
 
 -- the lines of these maps from number n on, and then these items
 abbrev pub lines_before : ℕ → List MapShape → List (Writer Item) → List (Writer Item)

@@ -1,5 +1,5 @@
 -- The aliases of a module: each map that is used has one, under a name of its own, whose line reads back.
-use Rattle.std.proofs.Common.{◌≡◌, ◌<◌, ◌≤◌, ◌^◌, ℕ, zero, suc, ◌+◌, Bool, true, false, cond, not, ◌||◌, List, [], ◌∷◌, ◌++◌, map, length, Option, Some, None, Result, Ok, Err, refl, sym, ap, subst, ◌∙◌, arith, append_assoc, codes, decimal}
+use Rattle.std.proofs.Common.{◌≡◌, ◌<◌, ◌≤◌, ◌^◌, ℕ, zero, suc, ◌+◌, Bool, true, false, cond, not, ◌||◌, List, [], ◌∷◌, ◌++◌, map, length, Option, Some, None, Result, Ok, Err, refl, sym, ap, subst, ◌∙◌, arith, append_assoc, decimal}
 use Rattle.std.specs.Prelude.{position, unwrap_or}
 use Rattle.std.specs.List.{AllByRecursion, list_any, position_or_len}
 use Rattle.std.specs.Str.{bytes_eq}
@@ -20,10 +20,10 @@ use Rattle.mlir_syntax.specs.declared.tree.files.Item.TheVariants as items
 use Rattle.mlir_lex.specs.declared.fault.Fault.{Fault}
 use Rattle.mlir_lex.specs.Chain.{and_then}
 use Rattle.mlir_read.specs.declared.files.FileScope.{FileScope}
-use Rattle.mlir_read.specs.Maps.{AliasShape, aliased, alias_map, map_of}
-use Rattle.mlir_read.specs.Resolve.{alias_of, items_of}
+use Rattle.mlir_resolve.specs.Maps.{AliasShape, aliased, alias_map, map_of}
+use Rattle.mlir_read.specs.Resolve.{alias_of, joined, items_of}
 use Rattle.mlir_print.specs.Maps.{alias_line_at, alias_lines_at, alias_text, alias_number, use_at, with_map, with_maps, with_ops, with_funcs, maps_used}
-use Rattle.mlir_print.specs.Writers.{Writer, each_of, made}
+use Rattle.text_format.specs.Writers.{Writer, each_of, made}
 use Rattle.mlir_roundtrip.specs.Maps.{IsPrintableMap, ArePrintableMaps, is_text_of, HasAlias, HaveAliases, OpsHaveAliases, FuncsHaveAliases, row, rows, with_aliases}
 use Rattle.mlir_roundtrip.proofs.Maps.{written_found, no_symbols}
 
@@ -174,12 +174,12 @@ none_next n entries m h = λ j le lt. aliased_last entries (row n m) (alias_text
 pub line_found : (s : FileScope) (n : ℕ) (m : MapShape) → aliased s.aliases (alias_text n) ≡ None → IsPrintableMap m → (at : ℕ) → alias_of s ((alias_line_at n m).tree at) ≡ Ok (with_aliases s (s.aliases ++ row n m ∷ []))
 line_found s n m new p at = rw (new, (λ (k : ℕ). written_found m true k p.is_map p.dims), (λ (k : ℕ). no_symbols m k)) refl
 
-none_before : (r : Result (List FuncShape) Fault) → and_then r (λ (fs : List FuncShape). Ok ([] ++ fs)) ≡ r
-none_before (Ok fs) = refl
+none_before : (r : Result (FileScope × List FuncShape) Fault) → and_then r (λ q. Ok (q.0, [] ++ q.1)) ≡ r
+none_before (Ok q) = refl
 none_before (Err e) = refl
 
-abbrev behind_line : List Item → Result FileScope Fault → Result (List FuncShape) Fault
-behind_line more r = and_then {A = FileScope × List FuncShape} {B = List FuncShape} (and_then {A = FileScope} {B = FileScope × List FuncShape} r (λ t. Ok (t, []))) (λ q. and_then (items_of q.0 more) (λ fs. Ok (q.1 ++ fs)))
+abbrev behind_line : List Item → Result FileScope Fault → Result (FileScope × List FuncShape) Fault
+behind_line more r = joined (and_then {A = FileScope} {B = FileScope × List FuncShape} r (λ t. Ok (t, []))) (λ t. items_of t more)
 
 -- behind the aliases' lines the aliases are those of the maps
 pub lines_found : (s : FileScope) (n : ℕ) (ms : List MapShape) (ws : List (Writer Item)) → NoneFrom n s.aliases → n + length ms < 2 ^ 64 → ArePrintableMaps ms → (at : ℕ)

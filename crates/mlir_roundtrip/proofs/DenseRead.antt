@@ -19,15 +19,15 @@ use Rattle.text_format.specs.Pieces.{bytes_of}
 use Rattle.mlir_syntax.specs.declared.tree.constants.DensePiece.{DensePiece}
 use Rattle.mlir_lex.specs.declared.fault.Fault.{Fault}
 use Rattle.mlir_lex.specs.Chain.{and_then}
-use Rattle.mlir_read.specs.declared.dense.Mark.{Mark}
-use Rattle.mlir_read.specs.declared.dense.Mark.TheVariants as marks
-use Rattle.mlir_read.specs.declared.dense.Wanted.{Wanted}
-use Rattle.mlir_read.specs.declared.dense.Wanted.TheVariants as wanted
-use Rattle.mlir_read.specs.Types.{counted, elements}
-use Rattle.mlir_read.specs.Literals.{digits_value, is_negative, most_of}
-use Rattle.mlir_read.specs.Constants.{mark_of, Stand, with_item, behind, by_stand, nested_from, number_in, elements_from, shape_marks, behind_element, behind_close, and_behind, times, behind_nested}
+use Rattle.mlir_resolve.specs.declared.dense.Mark.{Mark}
+use Rattle.mlir_resolve.specs.declared.dense.Mark.TheVariants as marks
+use Rattle.mlir_resolve.specs.declared.dense.Wanted.{Wanted}
+use Rattle.mlir_resolve.specs.declared.dense.Wanted.TheVariants as wanted
+use Rattle.mlir_resolve.specs.Types.{counted, elements}
+use Rattle.mlir_resolve.specs.Literals.{digits_value, is_negative, most_of}
+use Rattle.mlir_resolve.specs.Constants.{mark_of, Stand, with_item, behind, by_stand, nested_from, number_in, elements_from, shape_marks, behind_element, behind_close, and_behind, times, behind_nested}
 use Rattle.mlir_print.specs.Literals.{number_at}
-use Rattle.mlir_print.specs.Writers.{each_of}
+use Rattle.text_format.specs.Writers.{each_of}
 use Rattle.mlir_print.specs.Constants.{Word, bare, open_word, close_word, comma_word, number_words, element_if, element_words, first_words, items_words, nested_words, word_at}
 use Rattle.mlir_roundtrip.specs.Printable.{AreKept}
 use Rattle.mlir_roundtrip.proofs.DenseWords.{AreValues, all_drop}

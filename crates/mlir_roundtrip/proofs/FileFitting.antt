@@ -1,5 +1,5 @@
 -- Each token of a printable module's canonical text is of the class that the grammar wants there: functions and files.
-use Rattle.std.proofs.Common.{◌≡◌, ◌<◌, ◌≤◌, ◌^◌, ◌⊎◌, inl, inr, ℕ, ◌+◌, List, [], ◌∷◌, ◌++◌, length, map, refl, sym, subst, arith}
+use Rattle.std.proofs.Common.{◌≡◌, ◌<◌, ◌≤◌, ◌^◌, ℕ, ◌+◌, List, [], ◌∷◌, ◌++◌, length, map, refl, arith, Option}
 use Rattle.std.specs.List.{AllByRecursion}
 use Rattle.affine_maps.specs.Shape.{MapShape}
 use Rattle.mlir_ir.specs.declared.tree.Ty.{Ty}
@@ -7,22 +7,25 @@ use Rattle.mlir_ir.specs.declared.tree.ValueId.{ValueId}
 use Rattle.mlir_ir.specs.declared.tree.OpKind.{OpKind}
 use Rattle.mlir_ir.specs.declared.tree.OpKind.TheVariants as kinds
 use Rattle.mlir_ir.specs.declared.tree.Op.{Op}
-use Rattle.mlir_ir.specs.declared.tree.Module.{Module}
 use Rattle.mlir_ir.specs.Shape.{FuncShape}
 use Rattle.mlir_print.specs.declared.names.Given.TheVariants.{Argument}
 use Rattle.mlir_print.specs.Names.{Names, Row, with_argument, row_of, nothing}
-use Rattle.mlir_print.specs.Writers.{each_of, commas, made}
+use Rattle.text_format.specs.Writers.{each_of, commas, made}
 use Rattle.mlir_syntax.specs.declared.tree.files.Item.TheVariants as items
 use Rattle.mlir_print.specs.Maps.{with_funcs}
 use Rattle.mlir_print.specs.Returns.{next_value_at, return_type_at, returned_at, return_at}
 use Rattle.mlir_print.specs.Operations.{line_at, last_at, next}
-use Rattle.mlir_print.specs.Canonical.{params_at, after_params, next_result_at, results_at, body_at, function_at, functions_at, module_at, text_with, text_at}
-use Rattle.mlir_roundtrip.specs.Printable.{IsTensorValue, IsPrintableReturn, ArePrintableOps, ArePrintableParams, ArePrintableResults, IsPrintableFunc, ArePrintable, IsPrintable}
+use Rattle.mlir_print.specs.Canonical.{params_at, after_params, next_result_at, results_at, body_at, function_at, functions_at, module_at, text_with, text_at, rest_at}
+use Rattle.mlir_roundtrip.specs.Printable.{IsTensorValue, IsPrintableReturn, ArePrintableOps, ArePrintableParams, ArePrintableResults, IsPrintableFunc, ArePrintable, IsPrintable, IsPrintableScript}
 use Rattle.mlir_roundtrip.proofs.Rows.{RowsFit, rows_fit, tensor_value, Bound, bound_in}
 use Rattle.mlir_roundtrip.proofs.AliasLines.{lines_fit}
 use Rattle.mlir_roundtrip.proofs.Readable.{row_shaped}
-use Rattle.mlir_roundtrip.proofs.Leaves.{LeavesFit, AreFit, both_fit, each_fit, commas_fit, given_new}
+use Rattle.text_format.proofs.Written.{LeavesFit, AreFit, both_fit, each_fit, commas_fit}
+use Rattle.mlir_roundtrip.proofs.Leaves.{given_new}
 use Rattle.mlir_roundtrip.proofs.Fitting.{value_type, line_fit}
+use Rattle.script_read.specs.declared.script.Script.{Script}
+use Rattle.mlir_file.specs.declared.file.File.{File}
+use Rattle.mlir_roundtrip.proofs.Scripts.{rest_fits}
 
 -- ---- the end of a function
 
@@ -88,12 +91,13 @@ functions_fit : (al : List MapShape) (fs : List FuncShape) → ArePrintable fs �
 functions_fit al [] h = tt
 functions_fit al (f ∷ fs) h = (function_fit al f h.0, functions_fit al fs h.1)
 
-module_fit : (al : List MapShape) (fs : List FuncShape) → ArePrintable fs → LeavesFit ((module_at al fs).pieces ++ [])
-module_fit al fs h = both_fit (module_at al fs).pieces [] (refl, both_fit (each_of (functions_at al fs)).pieces _ (each_fit (functions_at al fs) (functions_fit al fs h)) (refl, tt)) tt
+module_fit : (al : List MapShape) (fs : List FuncShape) (script : Option Script) → ArePrintable fs → IsPrintableScript script → LeavesFit ((module_at al fs script).pieces ++ [])
+module_fit al fs script h p =
+    both_fit (module_at al fs script).pieces [] (refl, (refl, both_fit (each_of (functions_at al fs)).pieces (rest_at script).pieces (each_fit (functions_at al fs) (functions_fit al fs h)) (rest_fits script p))) tt
 
-with_fit : (al : List MapShape) (fs : List FuncShape) → ArePrintable fs → LeavesFit (text_with al fs).pieces
-with_fit al fs h = lines_fit 0 al (made items.Module (module_at al fs) ∷ []) (module_fit al fs h)
+with_fit : (al : List MapShape) (fs : List FuncShape) (script : Option Script) → ArePrintable fs → IsPrintableScript script → LeavesFit (text_with al fs script).pieces
+with_fit al fs script h p = lines_fit 0 al (made items.Module (module_at al fs script) ∷ []) (module_fit al fs script h p)
 
 -- each token of the canonical text is of its class
-pub text_fits : (m : Module) → IsPrintable m → LeavesFit (text_at m).pieces
-text_fits m h = with_fit (with_funcs [] m.funcs) m.funcs h.funcs
+pub text_fits : (f : File) → IsPrintable f → LeavesFit (text_at f).pieces
+text_fits f h = with_fit (with_funcs [] f.module.funcs) f.module.funcs f.script h.funcs h.script

@@ -1,5 +1,5 @@
--- The canonical tree of a module stands for the module with the numbers of its text.
-use Rattle.std.proofs.Common.{◌≡◌, ◌<◌, ◌≤◌, ◌^◌, ◌⊎◌, inl, inr, ℕ, ◌+◌, suc, Bool, true, false, List, [], ◌∷◌, ◌++◌, map, length, None, Result as Answer, Ok, Err, refl, sym, ap, ◌∙◌, length-append, arith, codes, nat_eq, nat_le, nat_lt}
+-- The canonical tree of a file stands for the file with the numbers of its text.
+use Rattle.std.proofs.Common.{◌≡◌, ◌<◌, ◌≤◌, ◌^◌, inl, ℕ, ◌+◌, suc, Bool, true, false, List, [], ◌∷◌, ◌++◌, map, length, None, Result as Answer, Ok, Err, refl, sym, ap, ◌∙◌, length-append, arith, nat_eq, nat_le, nat_lt, Option, Some}
 use Rattle.std.specs.List.{AllByRecursion, list_all}
 use Rattle.std.proofs.lemmas.Bool.{and_parts, and_from, lt-ltb, le-leb, lt-leb, ne_eqb, ltb-false}
 use Rattle.std.proofs.lemmas.List.{append-nil}
@@ -9,7 +9,6 @@ use Rattle.mlir_ir.specs.declared.tree.ValueId.{ValueId}
 use Rattle.mlir_ir.specs.declared.tree.OpKind.{OpKind}
 use Rattle.mlir_ir.specs.declared.tree.OpKind.TheVariants as kinds
 use Rattle.mlir_ir.specs.declared.tree.Op.{Op}
-use Rattle.mlir_ir.specs.declared.tree.Module.{Module}
 use Rattle.mlir_ir.specs.Shape.{FuncShape}
 use Rattle.text_format.specs.Token.{TokenShape}
 use Rattle.text_format.specs.Bytes.{is_letter, is_word_byte}
@@ -22,26 +21,26 @@ use Rattle.mlir_syntax.specs.declared.tree.files.ReturnType.{ReturnType}
 use Rattle.mlir_syntax.specs.declared.tree.files.Returned.TheVariants.{Values}
 use Rattle.mlir_syntax.specs.declared.tree.files.Function.{Function}
 use Rattle.mlir_syntax.specs.declared.tree.files.Item.TheVariants as items
-use Rattle.mlir_read.specs.declared.names.Meaning.TheVariants.{Held}
-use Rattle.mlir_read.specs.declared.names.Scope.{Scope}
+use Rattle.mlir_resolve.specs.declared.names.Meaning.TheVariants.{Held}
+use Rattle.mlir_resolve.specs.declared.names.Scope.{Scope}
 use Rattle.mlir_read.specs.declared.files.Stage.TheVariants.{Closed}
 use Rattle.mlir_read.specs.declared.files.FileScope.{FileScope}
 use Rattle.mlir_lex.specs.declared.fault.Fault.{Fault}
-use Rattle.mlir_read.specs.Maps.{AliasShape}
-use Rattle.mlir_read.specs.Names.{Entry, entry, place}
+use Rattle.mlir_resolve.specs.Maps.{AliasShape}
+use Rattle.mlir_resolve.specs.Names.{Entry, entry, place}
 use Rattle.mlir_lex.specs.Chain.{and_then, each}
-use Rattle.mlir_read.specs.Scope.{params_of, value_id}
-use Rattle.mlir_read.specs.Operations.{statements_of}
-use Rattle.mlir_read.specs.Resolve.{is_ascii, name_of, unknown, results_from, results_of, more_return_types, returned_of, return_of, opened, body_of, function_of, functions_of, items_of, start, resolve}
+use Rattle.mlir_resolve.specs.Scope.{params_of, value_id}
+use Rattle.mlir_resolve.specs.Operations.{statements_of}
+use Rattle.mlir_read.specs.Resolve.{is_ascii, name_of, unknown, results_from, results_of, more_return_types, returned_of, return_of, opened, body_of, function_of, functions_of, items_of, start, resolve, holding, with_script, may_hold, rest_of, behind_functions, joined}
 use Rattle.mlir_print.specs.declared.names.Given.TheVariants.{Argument}
 use Rattle.mlir_print.specs.Names.{Names, Row, row_of, nothing, with_argument}
-use Rattle.mlir_print.specs.Writers.{each_of, made}
-use Rattle.mlir_print.specs.Maps.{maps_used, with_funcs}
+use Rattle.text_format.specs.Writers.{each_of, made}
+use Rattle.mlir_print.specs.Maps.{with_funcs}
 use Rattle.mlir_print.specs.Returns.{Ending, next_value_at, return_type_at, values_at, returned_at}
 use Rattle.mlir_print.specs.Operations.{line_at, last_at, names_after, next}
-use Rattle.mlir_print.specs.Canonical.{Body, params_at, after_params, after_ops, names_in, body_at, next_result_at, results_at, function_at, functions_at, module_at, text_with, text_at}
-use Rattle.mlir_print.specs.Renumbered.{number_in, kind_renumbered, results_renumbered, op_renumbered, ops_renumbered, func_renumbered, values_in, funcs_renumbered, renumbered}
-use Rattle.mlir_roundtrip.specs.Printable.{IsTensorType, IsTensorValue, IsPrintableReturn, ArePrintableOps, ArePrintableResults, IsPrintableFunc, ArePrintable, AreNew, operations_in, IsPrintable}
+use Rattle.mlir_print.specs.Canonical.{Body, params_at, after_params, after_ops, names_in, body_at, next_result_at, results_at, function_at, functions_at, text_with, text_at, script_module_at, rest_at, module_at}
+use Rattle.mlir_print.specs.Renumbered.{number_in, kind_renumbered, results_renumbered, op_renumbered, ops_renumbered, func_renumbered, values_in, funcs_renumbered}
+use Rattle.mlir_roundtrip.specs.Printable.{IsTensorType, IsTensorValue, IsPrintableReturn, ArePrintableOps, ArePrintableResults, IsPrintableFunc, ArePrintable, AreNew, operations_in, IsPrintable, IsPrintableScript}
 use Rattle.mlir_roundtrip.proofs.Envs.{arg_name, IsCanon, Small, fresh_arg}
 use Rattle.mlir_roundtrip.proofs.Rows.{tensor_value, Bound, bound_in}
 use Rattle.mlir_roundtrip.specs.Maps.{ArePrintableMaps, FuncsHaveAliases, rows, with_aliases}
@@ -52,6 +51,14 @@ use Rattle.mlir_roundtrip.proofs.Regions.{Laid, each_laid, all_last, canon_more}
 use Rattle.mlir_roundtrip.proofs.Rounds.{Agrees, Standing, known, typed_found, id_found, scope, then_is, commas_laid, agrees_more, by_results}
 use Rattle.mlir_roundtrip.proofs.MapUses.{AllRead, all_read}
 use Rattle.mlir_roundtrip.proofs.Usable.{usable}
+use Rattle.script_read.specs.declared.script.Script.{Script}
+use Rattle.mlir_file.specs.declared.file.File.{File}
+use Rattle.mlir_roundtrip.specs.Numbered.{script_renumbered, renumbered}
+use Rattle.mlir_syntax.specs.declared.tree.files.ModuleRest.{ModuleRest}
+use Rattle.script_syntax.specs.declared.tree.lines.Sequence.{Sequence}
+use Rattle.script_text.specs.Canonical.{sequence_at}
+use Rattle.script_roundtrip.specs.Renumbered.{renumbered as renumbered_script}
+use Rattle.script_roundtrip.proofs.Rounds.{sequence_found}
 
 length_last : (rows : List Row) (r : Row) → length (rows ++ r ∷ []) ≡ suc (length rows)
 length_last rows r = length-append rows (r ∷ []) ∙ omega arith
@@ -235,7 +242,7 @@ name_ascii [] h = absurd (cc h)
 name_ascii (b ∷ bs) h = let p = and_parts (is_letter b) (list_all is_word_byte bs) h in and_from (is_ascii b) (list_all is_ascii bs) (word_ascii b (letter_word b p.0)) (bytes_ascii bs p.1)
 
 abbrev numbered_behind : FileScope → FuncShape → ℕ → ℕ → FileScope
-numbered_behind s f v k = record { stage = s.stage; aliases = s.aliases; functions = s.functions ++ f.name ∷ []; values = v; ops = k }
+numbered_behind s f v k = record { stage = s.stage; aliases = s.aliases; functions = s.functions ++ f.name ∷ []; values = v; ops = k; script = s.script }
 
 -- behind a function
 abbrev behind : FileScope → FuncShape → FileScope
@@ -265,14 +272,14 @@ abbrev FuncsRead : List AliasShape → List MapShape → List FuncShape → Type
 FuncsRead alias al fs = AllByRecursion (λ f. AllRead alias al f.body) fs
 
 functions_found : (s : FileScope) (al : List MapShape) (fs : List FuncShape) (xs : List Function) → FuncsRead s.aliases al fs → ArePrintable fs → AreNew s.functions fs → s.ops + operations_in fs ≤ 65536 → Laid (functions_at al fs) xs
-    → (t : FileScope) × (functions_of s xs ≡ Ok (t, funcs_renumbered s.values s.ops fs))
-functions_found s al [] [] ms h new le l = (s, refl)
+    → (t : FileScope) × (functions_of s xs ≡ Ok (t, funcs_renumbered s.values s.ops fs)) × (t.script ≡ s.script)
+functions_found s al [] [] ms h new le l = (s, refl, refl)
 functions_found s al [] (x ∷ xs) ms h new le l = absurd l
 functions_found s al (f ∷ fs) [] ms h new le l = absurd l
 functions_found s al (f ∷ fs) (x ∷ xs) ms h new le l =
     let one = function_found s al f ms.0 h.0 (omega arith) new.0 (l.0.0 + 3) in
     let more = functions_found (behind s f) al fs xs ms.1 h.1 new.1 (omega arith) l.1 in
-    (more.0, rw (l.0.1, one, more.1) refl)
+    (more.0, rw (l.0.1, one, more.1) refl, more.2)
 
 -- ---- texts
 
@@ -280,30 +287,56 @@ funcs_read : (al : List MapShape) (fs : List FuncShape) → FuncsHaveAliases al 
 funcs_read al [] h a p few = tt
 funcs_read al (f ∷ fs) h a p few = (all_read al f.body h.0 a p.0 few, funcs_read al fs h.1 a p.1 few)
 
-abbrev module_of : List FuncShape → Module
-module_of fs = record { funcs = fs }
+abbrev file_of : List FuncShape → Option Script → File
+file_of fs script = record { «module» = record { funcs = fs }; script = script }
 
 -- a module behind these aliases
 abbrev behind_lines : List AliasShape → FileScope
-behind_lines aliases = record { stage = Closed; aliases = aliases; functions = []; values = 0; ops = 0 }
+behind_lines aliases = record { stage = Closed; aliases = aliases; functions = []; values = 0; ops = 0; script = None }
 
-abbrev in_module : Answer (List FuncShape) Fault → Answer Module Fault
-in_module r = and_then r (λ fs. Ok (module_of fs))
+abbrev behind_run : FileScope → ModuleRest → Answer (FileScope × List FuncShape) Fault
+behind_run t r = and_then (may_hold None r) (λ _. rest_of t r)
 
-module_found : (al : List MapShape) (fs : List FuncShape) → FuncsRead (rows 0 al) al fs → ArePrintable fs → AreNew [] fs → operations_in fs ≤ 65536
-    → (at : ℕ) → items_of (with_aliases start (rows 0 al)) ((each_of (made items.Module (module_at al fs) ∷ [])).tree at) ≡ Ok (funcs_renumbered 0 0 fs)
-module_found al fs ms h new le at =
-    let r = λ (k : ℕ). functions_found (behind_lines (rows 0 al)) al fs ((each_of (functions_at al fs)).tree k) ms h new (omega arith) (each_laid (functions_at al fs) k) in
-    rw (λ (k : ℕ). (r k).1) (ap (λ (xs : List FuncShape). Ok xs) (append-nil (funcs_renumbered 0 0 fs)))
+-- what stands behind the functions is the script
+rest_found : (script : Option Script) → IsPrintableScript script → (t : FileScope) → t.script ≡ None → (at : ℕ) → (u : FileScope) × (behind_run t ((rest_at script).tree at) ≡ Ok (u, [])) × (u.script ≡ script_renumbered script)
+rest_found None p t e at = (t, refl, e)
+rest_found (Some s) p t e at =
+    let parts : (k : ℕ) × (((script_module_at s).tree (at + 3)).script ≡ (sequence_at 2 s).tree k) = (_, refl) in (
+      holding t (renumbered_script s),
+      ap (λ (q : Sequence). and_then (with_script t q) (λ v. functions_of v [])) parts.1 ∙ ap (λ (a : Answer Script Fault). and_then (and_then a (λ x. Ok (holding t x))) (λ v. functions_of v [])) (sequence_found 2 s p parts.0),
+      refl,
+    )
 
-with_found : (al : List MapShape) (fs : List FuncShape) → FuncsRead (rows 0 al) al fs → ArePrintableMaps al → length al < 2 ^ 64 → ArePrintable fs → AreNew [] fs → operations_in fs ≤ 65536
-    → (at : ℕ) → resolve ((text_with al fs).tree at) ≡ Ok (module_of (funcs_renumbered 0 0 fs))
-with_found al fs ms p few h new le at =
-    let r = lines_found start 0 al (made items.Module (module_at al fs) ∷ []) (λ j a b. refl) (omega arith) p at in
-    ap in_module (r.1 ∙ module_found al fs ms h new le r.0)
+-- a module is read: its functions, and then its script
+module_found : (al : List MapShape) (fs : List FuncShape) (script : Option Script) → FuncsRead (rows 0 al) al fs → ArePrintable fs → AreNew [] fs → operations_in fs ≤ 65536 → IsPrintableScript script
+    → (at : ℕ) → (u : FileScope) × (items_of (with_aliases start (rows 0 al)) ((each_of (made items.Module (module_at al fs script) ∷ [])).tree at) ≡ Ok (u, funcs_renumbered 0 0 fs)) × (u.script ≡ script_renumbered script)
+module_found al fs script ms h new le p at =
+    let m = (module_at al fs script).tree at in
+    let parts : (k : ℕ) × (m.functions ≡ (each_of (functions_at al fs)).tree k) = (_, refl) in
+    let rest : (k : ℕ) × (m.rest ≡ (rest_at script).tree k) = (_, refl) in
+    let f = functions_found (behind_lines (rows 0 al)) al fs ((each_of (functions_at al fs)).tree parts.0) ms h new (omega arith) (each_laid (functions_at al fs) parts.0) in
+    let r = rest_found script p f.0 f.2 rest.0 in
+    let first : functions_of (behind_lines (rows 0 al)) ((module_at al fs script).tree at).functions ≡ Ok (f.0, funcs_renumbered 0 0 fs) = ap (functions_of (behind_lines (rows 0 al))) parts.1 ∙ f.1 in
+    let second : behind_functions ((module_at al fs script).tree at) f.0 ≡ Ok (r.0, []) = ap (behind_run f.0) rest.1 ∙ r.1 in (
+      r.0,
+      ap (λ (x : Answer (FileScope × List FuncShape) Fault). joined (joined x (behind_functions ((module_at al fs script).tree at))) (λ v. Ok (v, []))) first
+          ∙ ap (λ (x : Answer (FileScope × List FuncShape) Fault). joined (and_then x (λ q. Ok (q.0, funcs_renumbered 0 0 fs ++ q.1))) (λ v. Ok (v, []))) second
+          ∙ ap (λ (xs : List FuncShape). Ok (r.0, xs)) (append-nil (funcs_renumbered 0 0 fs ++ []) ∙ append-nil (funcs_renumbered 0 0 fs)),
+      r.2,
+    )
 
--- the tree of the canonical text stands for the module with the numbers of the text
-pub text_found : (m : Module) → IsPrintable m → (at : ℕ) → resolve ((text_at m).tree at) ≡ Ok (renumbered m)
-text_found m h at =
-    let a = aliases_are m.funcs h.funcs h.few_ops in
-    with_found (with_funcs [] m.funcs) m.funcs (funcs_read (with_funcs [] m.funcs) m.funcs a.have a.printable a.uses a.few) a.printable a.few h.funcs h.names h.few_ops at
+abbrev whole_run : Answer (FileScope × List FuncShape) Fault → Answer File Fault
+whole_run r = and_then r (λ q. Ok (file_of q.1 q.0.script))
+
+with_found : (al : List MapShape) (fs : List FuncShape) (script : Option Script) → FuncsRead (rows 0 al) al fs → ArePrintableMaps al → length al < 2 ^ 64 → ArePrintable fs → AreNew [] fs → operations_in fs ≤ 65536 → IsPrintableScript script
+    → (at : ℕ) → resolve ((text_with al fs script).tree at) ≡ Ok (file_of (funcs_renumbered 0 0 fs) (script_renumbered script))
+with_found al fs script ms q few h new le p at =
+    let r = lines_found start 0 al (made items.Module (module_at al fs script) ∷ []) (λ j a b. refl) (omega arith) q at in
+    let m = module_found al fs script ms h new le p r.0 in
+    ap whole_run (r.1 ∙ m.1) ∙ ap (λ (x : Option Script). Ok (file_of (funcs_renumbered 0 0 fs) x)) m.2
+
+-- the tree of the canonical text stands for the file with the numbers of the text
+pub text_found : (f : File) → IsPrintable f → (at : ℕ) → resolve ((text_at f).tree at) ≡ Ok (renumbered f)
+text_found f h at =
+    let a = aliases_are f.module.funcs h.funcs h.few_ops in
+    with_found (with_funcs [] f.module.funcs) f.module.funcs f.script (funcs_read (with_funcs [] f.module.funcs) f.module.funcs a.have a.printable a.uses a.few) a.printable a.few h.funcs h.names h.few_ops h.script at

@@ -1,5 +1,5 @@
 -- The pieces of a printable module's canonical text are well spaced: functions and files.
-use Rattle.std.proofs.Common.{◌≡◌, ◌<◌, ◌≤◌, ◌^◌, ◌⊎◌, inl, inr, ℕ, ◌+◌, true, List, [], ◌∷◌, ◌++◌, length, map, refl, sym, ap, subst, ◌∙◌, arith, codes, Ok}
+use Rattle.std.proofs.Common.{◌≡◌, ◌<◌, ◌≤◌, ◌^◌, ℕ, ◌+◌, true, List, [], ◌∷◌, ◌++◌, length, map, refl, arith, codes, Ok, Option}
 use Rattle.std.specs.List.{AllByRecursion, list_all}
 use Rattle.std.proofs.lemmas.Bool.{and_parts, and_from}
 use Rattle.affine_maps.specs.Shape.{MapShape}
@@ -8,29 +8,27 @@ use Rattle.mlir_ir.specs.declared.tree.ValueId.{ValueId}
 use Rattle.mlir_ir.specs.declared.tree.OpKind.{OpKind}
 use Rattle.mlir_ir.specs.declared.tree.OpKind.TheVariants as kinds
 use Rattle.mlir_ir.specs.declared.tree.Op.{Op}
-use Rattle.mlir_ir.specs.declared.tree.Module.{Module}
 use Rattle.mlir_ir.specs.Shape.{FuncShape}
 use Rattle.text_format.specs.declared.class.Class.TheVariants as classes
 use Rattle.text_format.specs.declared.class.Position.TheVariants as places
-use Rattle.text_format.specs.declared.front.Kind.TheVariants.{Alias, Symbol}
+use Rattle.text_format.specs.declared.front.Kind.TheVariants.{Symbol}
 use Rattle.text_format.specs.declared.front.ByteClass.TheVariants.{WordByte}
 use Rattle.text_format.specs.declared.lexeme.Lexeme.TheVariants as lexemes
 use Rattle.text_format.specs.Bytes.{is_letter, is_word_byte}
 use Rattle.text_format.specs.Types.{is_word}
 use Rattle.text_format.specs.Tokens.{shapes_of}
-use Rattle.text_format.specs.Lexemes.{lexeme_kind, lexeme_text}
-use Rattle.text_format.specs.Pieces.{Piece, Gap, Leaf, IsSpaced, shapes_at}
+use Rattle.text_format.specs.Pieces.{IsSpaced, shapes_at}
 use Rattle.text_format.proofs.Printed.{shapes_of_pieces}
-use Rattle.text_format.proofs.Spacing.{all_in, IsName, IsApart, Opens, arg_name, lexeme_name, none_apart, none_opens, space, line, fixed_closed, fixed_word, leaf_name, leaf_closed, append_apart, space_opens, line_opens, fixed_opens, append_opens, first_map_name, symbol_name, whole}
+use Rattle.text_format.proofs.Spacing.{all_in, IsName, IsApart, Opens, arg_name, lexeme_name, none_apart, none_opens, space, fixed_closed, leaf_name, leaf_closed, append_apart, space_opens, fixed_opens, append_opens, symbol_name, whole}
 use Rattle.mlir_print.specs.declared.names.Given.TheVariants.{Argument}
 use Rattle.mlir_print.specs.Types.{ty_text}
 use Rattle.mlir_print.specs.Names.{Names, Row, type_in, with_argument, row_of, nothing}
-use Rattle.mlir_print.specs.Maps.{alias_of, alias_line_at, maps_used, with_funcs}
-use Rattle.mlir_print.specs.Writers.{each_of, commas, made}
+use Rattle.mlir_print.specs.Maps.{maps_used, with_funcs}
+use Rattle.text_format.specs.Writers.{each_of, commas, made}
 use Rattle.mlir_print.specs.Returns.{closed_at, next_value_at, return_type_at, returned_at, return_at}
 use Rattle.mlir_print.specs.Operations.{line_at, last_at, next}
-use Rattle.mlir_print.specs.Canonical.{params_at, after_params, names_in, next_result_at, results_at, body_at, function_at, functions_at, module_at, text_with, text_at, text_of}
-use Rattle.mlir_roundtrip.specs.Printable.{IsTensorValue, IsPrintableKind, IsPrintableLine, IsPrintableReturn, ArePrintableOps, ArePrintableParams, ArePrintableResults, IsPrintableFunc, ArePrintable, IsPrintable}
+use Rattle.mlir_print.specs.Canonical.{params_at, after_params, next_result_at, results_at, body_at, function_at, functions_at, module_at, text_with, text_at, text_of, rest_at}
+use Rattle.mlir_roundtrip.specs.Printable.{IsTensorValue, IsPrintableReturn, ArePrintableOps, ArePrintableParams, ArePrintableResults, IsPrintableFunc, ArePrintable, IsPrintable, IsPrintableScript}
 use Rattle.mlir_roundtrip.proofs.Rows.{RowsFit, rows_fit, tensor_value, Bound, bound_in}
 use Rattle.mlir_roundtrip.specs.Maps.{ArePrintableMaps}
 use Rattle.mlir_roundtrip.proofs.AliasLines.{lines_apart, funcs_named}
@@ -39,6 +37,9 @@ use Rattle.mlir_syntax.specs.declared.tree.files.Item.TheVariants as items
 use Rattle.mlir_roundtrip.proofs.Placing.{AreApart, AreOpen, each_apart, commas_apart, value_name, value_closed, row_closed, type_end, typed_end, comma_opens, line_two, line_four, two_opens, four_opens}
 use Rattle.mlir_roundtrip.proofs.Spaced.{line_apart}
 use Rattle.mlir_roundtrip.proofs.MapUses.{AreNamed}
+use Rattle.script_read.specs.declared.script.Script.{Script}
+use Rattle.mlir_file.specs.declared.file.File.{File}
+use Rattle.mlir_roundtrip.proofs.Scripts.{rest_opens, rest_apart}
 
 -- ---- the end of a function
 
@@ -140,28 +141,27 @@ functions_apart al (f ∷ fs) named h =
     let r = functions_apart al fs named.1 h.1 in
     ((line_two (function_apart al f named.0 h.0), r.0), (two_opens, r.1))
 
-close_module : IsApart (Gap (codes "\n") ∷ Leaf (classes.Name places.Item lexemes.CloseBrace) (lexeme_kind lexemes.CloseBrace) (lexeme_text lexemes.CloseBrace) ∷ Gap (codes "\n") ∷ [])
-close_module = line (leaf_name (classes.Name places.Item lexemes.CloseBrace) (lexeme_name lexemes.CloseBrace refl) line_opens (line none_apart))
-
-module_apart : (al : List MapShape) (fs : List FuncShape) → FuncsNamed al fs → ArePrintable fs → IsApart (module_at al fs).pieces
-module_apart al fs named h =
+module_apart : (al : List MapShape) (fs : List FuncShape) (script : Option Script) → FuncsNamed al fs → ArePrintable fs → IsPrintableScript script → IsApart (module_at al fs script).pieces
+module_apart al fs script named h p =
     let r = functions_apart al fs named h in
     let e = each_apart (functions_at al fs) r.0 r.1 in
-    leaf_name (classes.Exactly lexemes.Module) (lexeme_name lexemes.Module refl) space_opens (space (fixed_closed lexemes.OpenBrace refl (append_apart (each_of (functions_at al fs)).pieces _ e.0 line_opens close_module)))
+    leaf_name (classes.Exactly lexemes.Module) (lexeme_name lexemes.Module refl) space_opens (space
+    (leaf_name (classes.Exactly lexemes.OpenBrace) (lexeme_name lexemes.OpenBrace refl) (append_opens (each_of (functions_at al fs)).pieces (rest_at script).pieces e.1 (rest_opens script))
+    (append_apart (each_of (functions_at al fs)).pieces (rest_at script).pieces e.0 (rest_opens script) (rest_apart script p))))
 
-whole_module : (al : List MapShape) (fs : List FuncShape) → FuncsNamed al fs → ArePrintable fs → IsApart ((module_at al fs).pieces ++ [])
-whole_module al fs named h = append_apart (module_at al fs).pieces [] (module_apart al fs named h) none_opens none_apart
+whole_module : (al : List MapShape) (fs : List FuncShape) (script : Option Script) → FuncsNamed al fs → ArePrintable fs → IsPrintableScript script → IsApart ((module_at al fs script).pieces ++ [])
+whole_module al fs script named h p = append_apart (module_at al fs script).pieces [] (module_apart al fs script named h p) none_opens none_apart
 
-with_apart : (al : List MapShape) (fs : List FuncShape) → length al < 2 ^ 64 → ArePrintableMaps al → ArePrintable fs → IsApart (text_with al fs).pieces
-with_apart al fs few p h = lines_apart 0 al (made items.Module (module_at al fs) ∷ []) (omega arith) p (whole_module al fs (funcs_named al fs few) h)
+with_apart : (al : List MapShape) (fs : List FuncShape) (script : Option Script) → length al < 2 ^ 64 → ArePrintableMaps al → ArePrintable fs → IsPrintableScript script → IsApart (text_with al fs script).pieces
+with_apart al fs script few p h q = lines_apart 0 al (made items.Module (module_at al fs script) ∷ []) (omega arith) p (whole_module al fs script (funcs_named al fs few) h q)
 
 -- the pieces of the canonical text are well spaced
-pub text_spaced : (m : Module) → IsPrintable m → IsSpaced (text_at m).pieces []
-text_spaced m h =
-    let a = aliases_are m.funcs h.funcs h.few_ops in
-    whole (text_at m).pieces (with_apart (with_funcs [] m.funcs) m.funcs a.few a.printable h.funcs)
+pub text_spaced : (f : File) → IsPrintable f → IsSpaced (text_at f).pieces []
+text_spaced f h =
+    let a = aliases_are f.module.funcs h.funcs h.few_ops in
+    whole (text_at f).pieces (with_apart (with_funcs [] f.module.funcs) f.module.funcs f.script a.few a.printable h.funcs h.script)
 
 -- its tokens are those that were written
-pub text_tokens : (m : Module) → IsPrintable m → shapes_of (text_of m) ≡ Ok (shapes_at 0 (text_at m).pieces)
+pub text_tokens : (f : File) → IsPrintable f → shapes_of (text_of f) ≡ Ok (shapes_at 0 (text_at f).pieces)
 unfolding text_of
-text_tokens m h = shapes_of_pieces (text_at m).pieces (text_spaced m h)
+text_tokens f h = shapes_of_pieces (text_at f).pieces (text_spaced f h)

@@ -1,12 +1,11 @@
 -- The canonical text's tree is spelled by its pieces: functions and files.
-use Rattle.std.proofs.Common.{◌≡◌, ◌⊎◌, inl, inr, ℕ, ◌+◌, List, [], ◌∷◌, ◌++◌, map, length, Option, refl, sym, ap, ◌∙◌, append_assoc, codes}
+use Rattle.std.proofs.Common.{◌≡◌, ℕ, ◌+◌, List, [], ◌∷◌, ◌++◌, map, length, Option, refl, sym, ap, ◌∙◌, append_assoc, codes}
 use Rattle.affine_maps.specs.Shape.{MapShape}
 use Rattle.mlir_ir.specs.declared.tree.Ty.{Ty}
 use Rattle.mlir_ir.specs.declared.tree.ValueId.{ValueId}
 use Rattle.mlir_ir.specs.declared.tree.OpKind.{OpKind}
 use Rattle.mlir_ir.specs.declared.tree.OpKind.TheVariants as kinds
 use Rattle.mlir_ir.specs.declared.tree.Op.{Op}
-use Rattle.mlir_ir.specs.declared.tree.Module.{Module}
 use Rattle.mlir_ir.specs.Shape.{FuncShape}
 use Rattle.text_format.specs.declared.class.Class.{Class}
 use Rattle.text_format.specs.declared.class.Class.TheVariants as classes
@@ -25,14 +24,17 @@ use Rattle.mlir_syntax.specs.Operations as operation_grammar
 use Rattle.mlir_syntax.specs.Files as file_grammar
 use Rattle.mlir_print.specs.Names.{Names, Row, with_argument, nothing}
 use Rattle.mlir_print.specs.Types.{ty_text}
-use Rattle.mlir_print.specs.Writers.{Writer, lay, space, lay_after, pair, made, each_of, ◌▷◌}
+use Rattle.text_format.specs.Writers.{Writer, lay, space, lay_after, pair, made, each_of, ◌▷◌}
 use Rattle.mlir_print.specs.Maps.{with_funcs}
 use Rattle.mlir_print.specs.Returns.{Ending, type_at, closed_at, next_value_at, return_type_at, values_at, return_word_at, returned_at, return_at}
 use Rattle.mlir_print.specs.Operations.{line_at, last_at, next}
 use Rattle.mlir_print.specs.Canonical.{Body, param_at, params_at, names_in, next_result_at, results_at, body_at, function_at, functions_at, module_at, items_at, text_with, text_at}
-use Rattle.mlir_roundtrip.specs.Printable.{IsPrintableReturn, ArePrintableOps, IsPrintableFunc, ArePrintable, IsPrintable}
+use Rattle.mlir_roundtrip.specs.Printable.{IsPrintableReturn, ArePrintableOps, IsPrintableFunc, ArePrintable, IsPrintableScript, IsPrintable}
+use Rattle.script_read.specs.declared.script.Script.{Script}
+use Rattle.mlir_file.specs.declared.file.File.{File}
+use Rattle.mlir_roundtrip.proofs.Scripts.{rest-w}
 use Rattle.mlir_roundtrip.proofs.AliasLines.{lines-w}
-use Rattle.mlir_roundtrip.proofs.Writing.{spelled, spelled_append, IsWritten, AreWritten, put-w, lay-w, gap-w, sp-w, pair-w, made-w, blank-w, each_spelled, many-w, list-w}
+use Rattle.text_format.proofs.Written.{spelled, spelled_append, IsWritten, AreWritten, put-w, lay-w, gap-w, sp-w, pair-w, made-w, each_spelled, many-w, list-w}
 use Rattle.mlir_roundtrip.proofs.Spelled.{line-w}
 
 -- ---- parameters and results
@@ -161,24 +163,26 @@ functions-w : (al : List MapShape) (fs : List FuncShape) → ArePrintable fs →
 functions-w al [] h = tt
 functions-w al (f ∷ fs) h = (gap-w (codes "\n  ") (function-w al f h.0), functions-w al fs h.1)
 
-enclosed-w : (al : List MapShape) (fs : List FuncShape) → ArePrintable fs → IsWritten file_grammar.enclosed (module_at al fs)
+enclosed-w : (al : List MapShape) (fs : List FuncShape) (script : Option Script) → ArePrintable fs → IsPrintableScript script → IsWritten file_grammar.enclosed (module_at al fs script)
 unfolding file_grammar.enclosed
-enclosed-w al fs h = made-w _ _ (λ _. refl) (pair-w (put-w _ _ _) (sp-w (lay-w lexemes.OpenBrace (many-w _ file_grammar.function (functions_at al fs) (functions-w al fs h)
-    (gap-w (codes "\n") (blank-w (P.Gap (codes "\n") ∷ []) (λ at. refl) (put-w (classes.Name places.Item lexemes.CloseBrace) _ _)))))))
+enclosed-w al fs script h p =
+    let w = pair-w (put-w (classes.Exactly lexemes.Module) _ _) (sp-w (pair-w (put-w (classes.Exactly lexemes.OpenBrace) _ _) (many-w (classes.Exactly lexemes.FuncFunc) file_grammar.function (functions_at al fs) (functions-w al fs h) (rest-w script p)))) in
+    record { law = λ at. w.law at }
 
 -- ---- texts
 
-module-w : (al : List MapShape) (fs : List FuncShape) → ArePrintable fs → IsWritten file_grammar.item (made items.Module (module_at al fs))
+module-w : (al : List MapShape) (fs : List FuncShape) (script : Option Script) → ArePrintable fs → IsPrintableScript script → IsWritten file_grammar.item (made items.Module (module_at al fs script))
 unfolding file_grammar.item
-module-w al fs h = let w = enclosed-w al fs h in record { law = λ at. w.law at }
+module-w al fs script h p = let w = enclosed-w al fs script h p in record { law = λ at. w.law at }
 
-items-w : (al : List MapShape) (fs : List FuncShape) → ArePrintable fs → AreWritten file_grammar.item (items_at al fs)
-items-w al fs h = lines-w 0 al (made items.Module (module_at al fs) ∷ []) (module-w al fs h, tt)
+items-w : (al : List MapShape) (fs : List FuncShape) (script : Option Script) → ArePrintable fs → IsPrintableScript script → AreWritten file_grammar.item (items_at al fs script)
+items-w al fs script h p = lines-w 0 al (made items.Module (module_at al fs script) ∷ []) (module-w al fs script h p, tt)
 
-text-w : (al : List MapShape) (fs : List FuncShape) → AreWritten file_grammar.item (items_at al fs) → IsWritten file_grammar.text (text_with al fs)
+text-w : (al : List MapShape) (fs : List FuncShape) (script : Option Script) → AreWritten file_grammar.item (items_at al fs script) → IsWritten file_grammar.text (text_with al fs script)
 unfolding file_grammar.text
-text-w al fs h = record { law = λ at. each_spelled file_grammar.item (items_at al fs) h at }
+text-w al fs script h = record { law = λ at. each_spelled file_grammar.item (items_at al fs script) h at }
 
 -- the tree of the canonical text is spelled by its pieces
-pub text_spelled : (m : Module) → IsPrintable m → IsWritten file_grammar.text (text_at m)
-text_spelled m h = text-w (with_funcs [] m.funcs) m.funcs (items-w (with_funcs [] m.funcs) m.funcs h.funcs)
+pub text_spelled : (f : File) → IsPrintable f → IsWritten file_grammar.text (text_at f)
+text_spelled f h =
+    text-w (with_funcs [] f.module.funcs) f.module.funcs f.script (items-w (with_funcs [] f.module.funcs) f.module.funcs f.script h.funcs h.script)

@@ -15,12 +15,12 @@ use Rattle.mlir_ir.specs.declared.tree.OpKind.TheVariants as kinds
 use Rattle.text_format.specs.declared.class.Class.TheVariants as classes
 use Rattle.text_format.specs.Classes.{holds}
 use Rattle.text_format.specs.Types.{is_some, width_of, element_of, extents_of}
-use Rattle.mlir_read.specs.Types.{elem_of}
+use Rattle.mlir_resolve.specs.Types.{elem_of}
 use Rattle.mlir_print.specs.declared.names.Given.TheVariants.{Result}
 use Rattle.mlir_print.specs.Types.{ty_text, type_kind}
 use Rattle.mlir_print.specs.Names.{Names, Row, type_in, kind_in, type_or, kind_or, row_of}
 use Rattle.mlir_print.specs.Maps.{use_at}
-use Rattle.mlir_print.specs.Writers.{each_of, commas}
+use Rattle.text_format.specs.Writers.{each_of, commas}
 use Rattle.mlir_print.specs.Payloads.{region_at}
 use Rattle.mlir_print.specs.Constants.{word_at, dense_words}
 use Rattle.mlir_print.specs.Generics.{iterator_at, next_input_at, next_type_at, inputs_at, output_at, operands_at}
@@ -29,7 +29,8 @@ use Rattle.mlir_print.specs.Operations.{scalar_if, constant_if, operation_at, li
 use Rattle.mlir_roundtrip.specs.Printable.{IsIntegerType, IsValueType, IsScalar, IsDefined, row_or, row_in, elem_in, IsTensorValue, IsScalarValue, IsPrintableScalar, IsPrintableConstant, IsPrintableKind, IsPrintableLine}
 use Rattle.mlir_roundtrip.proofs.Readable.{elem_some, row_shaped, width_read}
 use Rattle.mlir_roundtrip.proofs.Rows.{Bound, RowsFit, bound_next, defined_type, inner_few, kind_type, rows_fit, tensor_type, type_there}
-use Rattle.mlir_roundtrip.proofs.Leaves.{AreFit, IsWrittenElem, LeavesFit, both_fit, commas_fit, each_fit, given_new}
+use Rattle.text_format.proofs.Written.{AreFit, LeavesFit, both_fit, commas_fit, each_fit}
+use Rattle.mlir_roundtrip.proofs.Leaves.{IsWrittenElem, given_new}
 use Rattle.mlir_roundtrip.proofs.PayloadFitting.{literal_fits, region_fit}
 use Rattle.mlir_roundtrip.proofs.MapUses.{uses_fit}
 use Rattle.mlir_roundtrip.proofs.DenseWords.{dense_words_fit}

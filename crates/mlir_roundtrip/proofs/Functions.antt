@@ -1,5 +1,5 @@
 -- The files that are read are printable, and have the numbers of their canonical text.
-use Rattle.std.proofs.Common.{◌≡◌, ◌<◌, ◌≤◌, subst, ℕ, ◌+◌, suc, Bool, true, not, is_none, List, [], ◌∷◌, ◌++◌, length, map, Option, Some, None, Ok, refl, sym, ap, ◌∙◌, length-append, arith, nat_lt}
+use Rattle.std.proofs.Common.{◌≡◌, ◌<◌, ◌≤◌, subst, ℕ, ◌+◌, suc, Bool, true, not, is_none, List, [], ◌∷◌, ◌++◌, length, map, Option, Some, None, Ok, refl, sym, ap, ◌∙◌, length-append, arith, nat_lt, append_assoc, ◌^◌}
 use Rattle.std.specs.Prelude.{is_none}
 use Rattle.std.specs.List.{AllByRecursion, list_all}
 use Rattle.std.proofs.lemmas.Bool.{ltb-true}
@@ -7,12 +7,13 @@ use Rattle.mlir_ir.specs.declared.tree.Ty.{Ty}
 use Rattle.mlir_ir.specs.declared.tree.ValueId.{ValueId}
 use Rattle.mlir_ir.specs.declared.tree.OpKind.TheVariants as kinds
 use Rattle.mlir_ir.specs.declared.tree.Op.{Op}
-use Rattle.mlir_ir.specs.declared.tree.Module.{Module}
 use Rattle.mlir_ir.specs.declared.tree.Which.TheVariants as limits
 use Rattle.mlir_ir.specs.Shape.{FuncShape}
 use Rattle.text_format.specs.Token.{TokenShape}
 use Rattle.text_format.specs.Types.{is_word}
-use Rattle.text_format.specs.Formats.{spell_many}
+use Rattle.text_format.specs.declared.class.Class.TheVariants.{Exactly}
+use Rattle.text_format.specs.declared.lexeme.Lexeme.TheVariants.{OpenBrace, CloseBrace}
+use Rattle.text_format.specs.Formats.{Fixed, Leaf, spell_many, Item as Spelled, spell_some}
 use Rattle.mlir_syntax.specs.Operations as operation_grammar
 use Rattle.mlir_syntax.specs.Files as file_grammar
 use Rattle.mlir_syntax.specs.declared.tree.files.Param.{Param}
@@ -28,38 +29,52 @@ use Rattle.mlir_syntax.specs.declared.tree.files.Item.{Item}
 use Rattle.mlir_syntax.specs.declared.tree.files.Item.TheVariants as items
 use Rattle.mlir_syntax.specs.declared.tree.files.Text.{Text}
 use Rattle.mlir_lex.specs.declared.fault.Fault.TheVariants.{Limit, Syntax, Twice}
-use Rattle.mlir_read.specs.declared.names.Meaning.{Meaning}
-use Rattle.mlir_read.specs.declared.names.Meaning.TheVariants.{Held}
-use Rattle.mlir_read.specs.declared.names.Scope.{Scope}
-use Rattle.mlir_read.specs.declared.files.Stage.TheVariants.{Functions, Closed}
+use Rattle.mlir_resolve.specs.declared.names.Meaning.{Meaning}
+use Rattle.mlir_resolve.specs.declared.names.Meaning.TheVariants.{Held}
+use Rattle.mlir_resolve.specs.declared.names.Scope.{Scope}
+use Rattle.mlir_read.specs.declared.files.Stage.TheVariants.{Functions, Closed, Start, Scripted}
 use Rattle.mlir_read.specs.declared.files.FileScope.{FileScope}
-use Rattle.mlir_read.specs.Maps.{AliasShape, tokens_of, has_symbols, written_map, aliased as alias_named, alias_in}
-use Rattle.mlir_read.specs.Names.{Entry, entry, place}
+use Rattle.mlir_resolve.specs.Maps.{AliasShape, tokens_of, has_symbols, written_map, aliased as alias_named, alias_in}
+use Rattle.mlir_resolve.specs.Names.{Entry, entry, place}
 use Rattle.mlir_lex.specs.Chain.{and_then, demand, each, thread}
-use Rattle.mlir_read.specs.Types.{type_at}
-use Rattle.mlir_read.specs.Scope.{held, IsHeld, fresh, value_id, typed_as, with_value, param_of, params_of}
-use Rattle.mlir_read.specs.Constants.{result_meaning}
-use Rattle.mlir_read.specs.Operations.{kind_of, name_in, operation_of, numbered, statement_of, statements_of, room as op_room}
-use Rattle.mlir_read.specs.Resolve.{is_ascii, symbol_of, name_of, unknown, result_at, results_from, types_in, results_of, word_in, value_ids, more_return_types, returned_of, return_of, opened, closed, body_of, function_of, functions_of, alias_of, is_start, is_closed, at_stage, item_of, items_of, start, resolve}
-use Rattle.mlir_read.proofs.Keeps.{then_ok}
+use Rattle.mlir_resolve.specs.Types.{type_at}
+use Rattle.mlir_resolve.specs.Scope.{held, IsHeld, fresh, value_id, typed_as, with_value, param_of, params_of}
+use Rattle.mlir_resolve.specs.Constants.{result_meaning}
+use Rattle.mlir_resolve.specs.Operations.{kind_of, name_in, operation_of, numbered, statement_of, statements_of, room as op_room}
+use Rattle.mlir_read.specs.Resolve.{is_ascii, symbol_of, name_of, unknown, result_at, results_from, types_in, results_of, word_in, value_ids, more_return_types, returned_of, return_of, opened, closed, body_of, function_of, functions_of, alias_of, is_closed, at_stage, item_of, items_of, start, resolve, function_stage, module_stage, holding, with_script, may_hold, rest_of, behind_functions, outer_of, has_attributes, no_function, alone_of, later_of, module_of}
+use Rattle.mlir_resolve.proofs.Keeps.{then_ok}
 use Rattle.affine_maps.specs.Shape.{MapShape}
 use Rattle.mlir_syntax.specs.declared.tree.files.AliasLine.{AliasLine}
 use Rattle.mlir_roundtrip.specs.Maps.{IsPrintableMap}
 use Rattle.mlir_roundtrip.proofs.MapsRead.{written_printable}
 use Rattle.mlir_roundtrip.proofs.MapUses.{AreUsable, usable_last}
-use Rattle.mlir_roundtrip.proofs.Short.{IsShortMap, IsShortStatement, IsShortFunction, IsShortItem}
-use Rattle.mlir_read.proofs.Results.{kind_fits}
+use Rattle.mlir_roundtrip.proofs.Short.{IsShortMap, IsShortStatement, IsShortFunction, IsShortRest, IsShortItem}
+use Rattle.mlir_resolve.proofs.Results.{kind_fits}
 use Rattle.mlir_print.specs.declared.names.Given.{Given}
 use Rattle.mlir_print.specs.declared.names.Given.TheVariants.{Argument, Result}
 use Rattle.mlir_print.specs.Names.{Names, Row, row_of, nothing, with_argument}
 use Rattle.mlir_print.specs.Operations.{names_after, next}
 use Rattle.mlir_print.specs.Canonical.{after_params, after_ops}
-use Rattle.mlir_print.specs.Renumbered.{number_in, kind_renumbered, results_renumbered, op_renumbered, ops_renumbered, func_renumbered, values_in, funcs_renumbered, renumbered}
-use Rattle.mlir_roundtrip.specs.Printable.{IsTensorType, IsTensorValue, IsPrintableLine, IsPrintableReturn, ArePrintableOps, ArePrintableParams, ArePrintableResults, IsPrintableFunc, ArePrintable, AreNew, operations_in, IsPrintable}
+use Rattle.mlir_print.specs.Renumbered.{number_in, kind_renumbered, results_renumbered, op_renumbered, ops_renumbered, func_renumbered, values_in, funcs_renumbered}
+use Rattle.mlir_roundtrip.specs.Printable.{IsTensorType, IsTensorValue, IsPrintableLine, IsPrintableReturn, ArePrintableOps, ArePrintableParams, ArePrintableResults, IsPrintableFunc, ArePrintable, AreNew, operations_in, IsPrintable, IsPrintableScript}
 use Rattle.mlir_roundtrip.proofs.ReadTypes.{ok_same, demanded, type_row}
 use Rattle.mlir_roundtrip.proofs.Values.{Reads, meaning_held, reads_more}
 use Rattle.mlir_roundtrip.proofs.Operations.{IsRanked, ranked, value_is, tensor_is, kind_is}
-use Rattle.mlir_roundtrip.proofs.Symbols.{AreLeaves, leaves_left, leaves_right, StatementIs, FunctionIs, ItemIs}
+use Rattle.mlir_roundtrip.proofs.Symbols.{AreLeaves, leaves_left, leaves_right, StatementIs, FunctionIs, ItemIs, RestIs}
+use Rattle.script_read.specs.declared.script.Script.{Script}
+use Rattle.mlir_file.specs.declared.file.File.{File}
+use Rattle.std.proofs.lemmas.List.{append-nil}
+use Rattle.mlir_syntax.specs.declared.tree.files.ScriptModule.{ScriptModule}
+use Rattle.mlir_syntax.specs.declared.tree.files.ModuleRest.{ModuleRest}
+use Rattle.mlir_syntax.specs.declared.tree.files.ModuleRest.TheVariants as rests
+use Rattle.mlir_syntax.specs.declared.tree.files.Enclosed.{Enclosed}
+use Rattle.script_syntax.specs.declared.tree.lines.Sequence.{Sequence}
+use Rattle.script_syntax.specs.Lines.{sequence}
+use Rattle.script_read.specs.Resolve as scripts
+use Rattle.script_roundtrip.proofs.Shown.{AreShown, long_shown}
+use Rattle.script_roundtrip.proofs.Readable.{ScriptRead, script_taken}
+use Rattle.mlir_roundtrip.specs.Numbered.{script_renumbered, renumbered}
+use Rattle.mlir_read.specs.declared.files.Stage.{Stage}
 
 length_last : {A : Type 0} (xs : List A) (y : A) → length (xs ++ y ∷ []) ≡ suc (length xs)
 length_last xs y = length-append xs (y ∷ []) ∙ omega arith
@@ -321,6 +336,7 @@ record FuncRead (s : FileScope) (r : FileScope × FuncShape) : Type 0 where
   values : r.0.values ≡ s.values + values_in r.1
   ops : r.0.ops ≡ s.ops + length r.1.body
   few : s.ops + length r.1.body ≤ 65536
+  script : r.0.script ≡ s.script
 
 abbrev func_of : List ℕ → List (ValueId × Ty) → List Ty → List Op → FuncShape
 func_of name params results body = record { name = name; params = params; results = results; body = body }
@@ -374,6 +390,7 @@ function_is s f m usable short w h =
       values = body.values;
       ops = omega (arith, at_start, last);
       few = omega (arith, at_start, few_ops);
+      script = refl;
     })
 
 -- ---- files
@@ -409,17 +426,31 @@ first_func s r fs f m =
       few = omega (arith, ops, few);
     }
 
+-- a script that was read, if there is one
+abbrev HasRead : Option Script → Type 0
+HasRead None = Unit {0}
+HasRead (Some x) = ScriptRead x
+
 -- the scope behind has few operations, and what comes from it comes behind
 record Leads (s : FileScope) (r : FileScope × List FuncShape) : Type 0 where
   few : r.0.ops ≤ 65536
   usable : AreUsable r.0.aliases
   onto : (fs : List FuncShape) → FuncsRead r.0 fs → FuncsRead s (r.1 ++ fs)
+  script : HasRead s.script → HasRead r.0.script
 
 no_func : (s : FileScope) → s.ops ≤ 65536 → AreUsable s.aliases → Leads s (s, [])
-no_func s le usable = record { few = le; usable = usable; onto = λ fs r. r }
+no_func s le usable = record { few = le; usable = usable; onto = λ fs r. r; script = λ h. h }
 
 more_funcs : (s : FileScope) (r : FileScope × FuncShape) (q : FileScope × List FuncShape) → FuncRead s r → Leads r.0 q → Leads s (q.0, r.1 ∷ q.1)
-more_funcs s r q f m = record { few = m.few; usable = m.usable; onto = λ fs h. first_func s r (q.1 ++ fs) f (m.onto fs h) }
+more_funcs s r q f m = record { few = m.few; usable = m.usable; onto = λ fs h. first_func s r (q.1 ++ fs) f (m.onto fs h); script = λ h. m.script (subst HasRead (sym f.script) h) }
+
+both_lead : (s : FileScope) (r q : FileScope × List FuncShape) → Leads s r → Leads r.0 q → Leads s (q.0, r.1 ++ q.1)
+both_lead s r q l m = record {
+  few = m.few;
+  usable = m.usable;
+  onto = λ fs h. subst (λ (xs : List FuncShape). FuncsRead s xs) (sym (append_assoc r.1 q.1 fs)) (l.onto (q.1 ++ fs) (m.onto fs h));
+  script = λ h. m.script (l.script h);
+}
 
 functions_are : (s : FileScope) (xs : List Function) (r : FileScope × List FuncShape) → s.ops ≤ 65536 → AreUsable s.aliases → AllByRecursion IsShortFunction xs → AllByRecursion FunctionIs xs → functions_of s xs ≡ Ok r → Leads s r
 functions_are s [] r le usable short w h = subst (λ (q : FileScope × List FuncShape). Leads s q) (ok_same (s, []) r h) (no_func s le usable)
@@ -433,11 +464,69 @@ functions_are s (x ∷ xs) r le usable short w h =
     subst (λ (q : FileScope × List FuncShape). Leads s q) (ok_same (b.0.0, a.0.1 ∷ b.0.1) r b.2) (more_funcs s a.0 b.0 f more)
 
 -- from a scope that differs in its stage or its aliases alone
-leads_same : (s t : FileScope) (r : FileScope × List FuncShape) → s.functions ≡ t.functions → s.values ≡ t.values → s.ops ≡ t.ops → Leads t r → Leads s r
-leads_same s t r e v k l = record { few = l.few; usable = l.usable; onto = λ fs h. same_read s t (r.1 ++ fs) e v k (l.onto fs h) }
+leads_same : (s t : FileScope) (r : FileScope × List FuncShape) → s.functions ≡ t.functions → s.values ≡ t.values → s.ops ≡ t.ops → s.script ≡ t.script → Leads t r → Leads s r
+leads_same s t r e v k x l = record { few = l.few; usable = l.usable; onto = λ fs h. same_read s t (r.1 ++ fs) e v k (l.onto fs h); script = λ h. l.script (subst HasRead x h) }
+
+-- ---- modules, whose scripts have no more results in a step than the text has tokens
+
+abbrev RestShown : ℕ → ModuleRest → Type 0
+RestShown n (rests.End t) = Unit {0}
+RestShown n (rests.Script q e) = AreShown n q.lines
+RestShown n (rests.Nested m e) = AreShown n m.script.lines
+
+abbrev ItemShown : ℕ → Item → Type 0
+ItemShown n (items.Alias a) = Unit {0}
+ItemShown n (items.Function f) = Unit {0}
+ItemShown n (items.Module m) = RestShown n m.rest
+
+script_leads : (n : ℕ) (s : FileScope) (q : Sequence) (t : FileScope) → n < 2 ^ 64 → s.ops ≤ 65536 → AreUsable s.aliases → AreShown n q.lines → with_script s q ≡ Ok t → Leads s (t, [])
+script_leads n s q t small le usable a h =
+    let x = then_ok (scripts.resolve q) (λ x. Ok (holding s x)) t h in
+    subst (λ (u : FileScope). Leads s (u, [])) (ok_same (holding s x.0) t x.2) (record { few = le; usable = usable; onto = λ fs k. same_read s (holding s x.0) fs refl refl refl k; script = λ k. script_taken q n x.0 small a x.1 })
+
+ended_leads : (n : ℕ) (s : FileScope) (q : Sequence) (fs : List Function) (r : FileScope × List FuncShape) → n < 2 ^ 64 → s.ops ≤ 65536 → AreUsable s.aliases → AreShown n q.lines → AllByRecursion IsShortFunction fs → AllByRecursion FunctionIs fs
+    → and_then (with_script s q) (λ t. functions_of t fs) ≡ Ok r → Leads s r
+ended_leads n s q fs r small le usable a short w h =
+    let x = then_ok (with_script s q) (λ t. functions_of t fs) r h in
+    let l = script_leads n s q x.0 small le usable a x.1 in
+    both_lead s (x.0, []) r l (functions_are x.0 fs r l.few l.usable short w x.2)
+
+rest_leads : (n : ℕ) (s : FileScope) (m : ModuleRest) (r : FileScope × List FuncShape) → n < 2 ^ 64 → s.ops ≤ 65536 → AreUsable s.aliases → RestShown n m → IsShortRest m → RestIs m → rest_of s m ≡ Ok r → Leads s r
+rest_leads n s (rests.End t) r small le usable a short w h = subst (λ (q : FileScope × List FuncShape). Leads s q) (ok_same (s, []) r h) (no_func s le usable)
+rest_leads n s (rests.Script q e) r small le usable a short w h = ended_leads n s q e.functions r small le usable a short w h
+rest_leads n s (rests.Nested m e) r small le usable a short w h = ended_leads n s m.script e.functions r small le usable a short w h
+
+outer_leads : (n : ℕ) (s : FileScope) (m : Enclosed) (r : FileScope × List FuncShape) → n < 2 ^ 64 → s.ops ≤ 65536 → AreUsable s.aliases → RestShown n m.rest → IsShortItem (items.Module m) → ItemIs (items.Module m) → outer_of s m ≡ Ok r → Leads s r
+outer_leads n s m r small le usable a short w h =
+    let x = then_ok (functions_of s m.functions) (λ q. and_then (behind_functions m q.0) (λ p. Ok (p.0, q.1 ++ p.1))) r h in
+    let y = then_ok (behind_functions m x.0.0) (λ p. Ok (p.0, x.0.1 ++ p.1)) r x.2 in
+    let z = then_ok (may_hold m.attributes m.rest) (λ _. rest_of x.0.0 m.rest) y.0 y.1 in
+    let l = functions_are s m.functions x.0 le usable short.0 w.0 x.1 in
+    subst (λ (q : FileScope × List FuncShape). Leads s q) (ok_same (y.0.0, x.0.1 ++ y.0.1) r y.2) (both_lead s x.0 y.0 l (rest_leads n x.0.0 m.rest y.0 small l.few l.usable a short.1 w.1 z.2))
+
+alone_leads : (n : ℕ) (s : FileScope) (m : ModuleRest) (t : FileScope) → n < 2 ^ 64 → s.ops ≤ 65536 → AreUsable s.aliases → RestShown n m → alone_of s m ≡ Ok t → Leads s (t, [])
+alone_leads n s (rests.End c) t small le usable a h = absurd (cc h)
+alone_leads n s (rests.Script q e) t small le usable a h =
+    let x = then_ok (with_script s q) (λ t. and_then (no_function e.functions) (λ _. Ok t)) t h in
+    let y = then_ok (no_function e.functions) (λ _. Ok x.0) t x.2 in
+    subst (λ (u : FileScope). Leads s (u, [])) (ok_same x.0 t y.2) (script_leads n s q x.0 small le usable a x.1)
+alone_leads n s (rests.Nested m e) t small le usable a h = absurd (cc h)
+
+module_leads : (n : ℕ) (stage : Stage) (s : FileScope) (m : Enclosed) (r : FileScope × List FuncShape) → n < 2 ^ 64 → s.ops ≤ 65536 → AreUsable s.aliases → RestShown n m.rest → IsShortItem (items.Module m) → ItemIs (items.Module m) → module_of stage s m ≡ Ok r → Leads s r
+module_leads n Start s m r small le usable a short w h = leads_same s (at_stage s (module_stage Start m)) r refl refl refl refl (outer_leads n (at_stage s (module_stage Start m)) m r small le usable a short w h)
+module_leads n Functions s m r small le usable a short w h =
+    let x = then_ok (later_of (at_stage s Scripted) m) (λ t. Ok (t, [])) r h in
+    let y = then_ok (has_attributes m.attributes m.brace) _ x.0 x.1 in
+    let z = then_ok (no_function m.functions) (λ _. alone_of (at_stage s Scripted) m.rest) x.0 y.2 in
+    subst (λ (q : FileScope × List FuncShape). Leads s q) (ok_same (x.0, []) r x.2)
+    (leads_same s (at_stage s Scripted) (x.0, []) refl refl refl refl (alone_leads n (at_stage s Scripted) m.rest x.0 small le usable a z.2))
+module_leads n Scripted s m r small le usable a short w h = absurd (cc h)
+module_leads n Closed s m r small le usable a short w h = absurd (cc h)
+
+-- ---- items
 
 abbrev with_alias : FileScope → AliasShape → FileScope
-with_alias s a = record { stage = s.stage; aliases = s.aliases ++ a ∷ []; functions = s.functions; values = s.values; ops = s.ops }
+with_alias s a = record { stage = s.stage; aliases = s.aliases ++ a ∷ []; functions = s.functions; values = s.values; ops = s.ops; script = s.script }
 
 abbrev alias_shape : List ℕ → MapShape → Bool → AliasShape
 alias_shape name m symbols = record { name = name; map = m; symbols = symbols }
@@ -448,44 +537,93 @@ alias_printable aliases a x short h =
     let m = then_ok (written_map true a.map) _ x d.2 in
     subst (λ (q : AliasShape). IsPrintableMap q.map) (ok_same (alias_shape a.name.text m.0 (has_symbols (tokens_of a.map))) x m.2) (written_printable true a.map m.0 short m.1)
 
-item_is : (s : FileScope) (i : Item) (r : FileScope × List FuncShape) → s.ops ≤ 65536 → AreUsable s.aliases → IsShortItem i → ItemIs i → item_of s i ≡ Ok r → Leads s r
-item_is s (items.Alias a) r le usable short w h =
+item_is : (n : ℕ) (s : FileScope) (i : Item) (r : FileScope × List FuncShape) → n < 2 ^ 64 → s.ops ≤ 65536 → AreUsable s.aliases → ItemShown n i → IsShortItem i → ItemIs i → item_of s i ≡ Ok r → Leads s r
+item_is n s (items.Alias a) r small le usable k short w h =
     let x = then_ok (alias_of s a) (λ t. Ok (t, [])) r h in
     let y = then_ok (alias_in s.aliases a) (λ q. Ok (with_alias s q)) x.0 x.1 in
     subst (λ (q : FileScope × List FuncShape). Leads s q) (ok_same (x.0, []) r x.2)
     (subst (λ (t : FileScope). Leads s (t, [])) (ok_same (with_alias s y.0) x.0 y.2)
-    (leads_same s (with_alias s y.0) (with_alias s y.0, []) refl refl refl (no_func (with_alias s y.0) le (usable_last s.aliases y.0 usable (alias_printable s.aliases a y.0 short y.1)))))
-item_is s (items.Function f) r le usable short w h =
+    (leads_same s (with_alias s y.0) (with_alias s y.0, []) refl refl refl refl (no_func (with_alias s y.0) le (usable_last s.aliases y.0 usable (alias_printable s.aliases a y.0 short y.1)))))
+item_is n s (items.Function f) r small le usable k short w h =
     let x = then_ok (demand (not (is_closed s.stage)) (Syntax f.keyword.start)) _ r h in
-    let y = then_ok (function_of (at_stage s Functions) f) (λ r. Ok (r.0, r.1 ∷ [])) r x.2 in
-    let g = function_is (at_stage s Functions) f y.0 usable short w y.1 in
+    let y = then_ok (function_of (at_stage s (function_stage s.stage)) f) (λ r. Ok (r.0, r.1 ∷ [])) r x.2 in
+    let g = function_is (at_stage s (function_stage s.stage)) f y.0 usable short w y.1 in
     let ops = g.ops in
     let few = g.few in
     subst (λ (q : FileScope × List FuncShape). Leads s q) (ok_same (y.0.0, y.0.1 ∷ []) r y.2)
-    (leads_same s (at_stage s Functions) (y.0.0, y.0.1 ∷ []) refl refl refl (more_funcs (at_stage s Functions) y.0 (y.0.0, []) g (no_func y.0.0 (omega (arith, ops, few)) (subst (λ (q : List AliasShape). AreUsable q) (sym g.aliases) usable))))
-item_is s (items.Module m) r le usable short w h =
-    let x = then_ok (demand (is_start s.stage) (Syntax m.keyword.start)) _ r h in
-    leads_same s (at_stage s Closed) r refl refl refl (functions_are (at_stage s Closed) m.functions r le usable short w x.2)
+    (leads_same s (at_stage s (function_stage s.stage)) (y.0.0, y.0.1 ∷ []) refl refl refl refl
+    (more_funcs (at_stage s (function_stage s.stage)) y.0 (y.0.0, []) g (no_func y.0.0 (omega (arith, ops, few)) (subst (λ (q : List AliasShape). AreUsable q) (sym g.aliases) usable))))
+item_is n s (items.Module m) r small le usable k short w h = module_leads n s.stage s m r small le usable k short w h
 
-items_are : (s : FileScope) (is : List Item) (fs : List FuncShape) → s.ops ≤ 65536 → AreUsable s.aliases → AllByRecursion IsShortItem is → AllByRecursion ItemIs is → items_of s is ≡ Ok fs → FuncsRead s fs
-items_are s [] fs le usable short w h = subst (λ (gs : List FuncShape). FuncsRead s gs) (ok_same [] fs h) (record { printable = tt; names = tt; numbers = refl; few = omega arith })
-items_are s (i ∷ is) fs le usable short w h =
-    let a = then_ok (item_of s i) (λ r. and_then (items_of r.0 is) (λ fs. Ok (r.1 ++ fs))) fs h in
-    let b = then_ok (items_of a.0.0 is) (λ fs. Ok (a.0.1 ++ fs)) fs a.2 in
-    let l = item_is s i a.0 le usable short.0 w.0 a.1 in
-    subst (λ (gs : List FuncShape). FuncsRead s gs) (ok_same (a.0.1 ++ b.0) fs b.2) (l.onto b.0 (items_are a.0.0 is b.0 l.few l.usable short.1 w.1 b.1))
+items_are : (n : ℕ) (s : FileScope) (is : List Item) (r : FileScope × List FuncShape) → n < 2 ^ 64 → s.ops ≤ 65536 → AreUsable s.aliases → AllByRecursion (ItemShown n) is → AllByRecursion IsShortItem is → AllByRecursion ItemIs is → items_of s is ≡ Ok r → Leads s r
+items_are n s [] r small le usable k short w h = subst (λ (q : FileScope × List FuncShape). Leads s q) (ok_same (s, []) r h) (no_func s le usable)
+items_are n s (i ∷ is) r small le usable k short w h =
+    let a = then_ok (item_of s i) (λ q. and_then (items_of q.0 is) (λ p. Ok (p.0, q.1 ++ p.1))) r h in
+    let b = then_ok (items_of a.0.0 is) (λ p. Ok (p.0, a.0.1 ++ p.1)) r a.2 in
+    let l = item_is n s i a.0 small le usable k.0 short.0 w.0 a.1 in
+    subst (λ (q : FileScope × List FuncShape). Leads s q) (ok_same (b.0.0, a.0.1 ++ b.0.1) r b.2) (both_lead s a.0 b.0 l (items_are n a.0.0 is b.0 small l.few l.usable k.1 short.1 w.1 b.1))
 
-pub record ModuleRead (m : Module) : Type 0 where
-  pub printable : IsPrintable m
-  pub number : renumbered m ≡ m
+none_behind : (s : FileScope) → s.ops ≤ 65536 → FuncsRead s []
+none_behind s le = record { printable = tt; names = tt; numbers = refl; few = omega arith }
 
-abbrev module_of : List FuncShape → Module
-module_of fs = record { funcs = fs }
+pub record FileRead (f : File) : Type 0 where
+  pub printable : IsPrintable f
+  pub number : renumbered f ≡ f
+
+script_is : (o : Option Script) → HasRead o → IsPrintableScript o × (script_renumbered o ≡ o)
+script_is None h = (tt, refl)
+script_is (Some x) h = (h.printable, ap (λ (y : Script). Some y) h.number)
+
+abbrev file_of : List FuncShape → Option Script → File
+file_of fs script = record { «module» = record { funcs = fs }; script = script }
 
 -- what a tree stands for is printable and numbered as its text, whose tokens are of their classes
-pub module_is : (t : Text) (m : Module) → AllByRecursion IsShortItem t.items → AllByRecursion ItemIs t.items → resolve t ≡ Ok m → ModuleRead m
-module_is t m short w h =
-    let x = then_ok (items_of start t.items) _ m h in
-    let r = items_are start t.items x.0 (omega arith) tt short w x.1 in
+pub file_is : (n : ℕ) (t : Text) (f : File) → n < 2 ^ 64 → AllByRecursion (ItemShown n) t.items → AllByRecursion IsShortItem t.items → AllByRecursion ItemIs t.items → resolve t ≡ Ok f → FileRead f
+file_is n t f small k short w h =
+    let x = then_ok (items_of start t.items) _ f h in
+    let l = items_are n start t.items x.0 small (omega arith) tt k short w x.1 in
+    let r = subst (λ (fs : List FuncShape). FuncsRead start fs) (append-nil x.0.1) (l.onto [] (none_behind x.0.0 l.few)) in
     let few = r.few in
-    subst (λ (q : Module). ModuleRead q) (ok_same (module_of x.0) m x.2) (record { printable = record { funcs = r.printable; names = r.names; few_ops = omega (arith, few) }; number = ap module_of r.numbers })
+    let s = script_is x.0.0.script (l.script tt) in
+    subst (λ (q : File). FileRead q) (ok_same (file_of x.0.1 x.0.0.script) f x.2) (record {
+      printable = record { funcs = r.printable; names = r.names; few_ops = omega (arith, few); script = s.0 };
+      number = ap (λ (fs : List FuncShape). file_of fs (script_renumbered x.0.0.script)) r.numbers ∙ ap (file_of x.0.1) s.1;
+    })
+
+-- ---- a text has a token for each result of a script's step
+
+append_left : (xs ys : List Spelled) (n : ℕ) → length (xs ++ ys) ≤ n → length xs ≤ n
+append_left xs ys n h = let e = length-append xs ys in omega (arith, e, h)
+
+append_right : (xs ys : List Spelled) (n : ℕ) → length (xs ++ ys) ≤ n → length ys ≤ n
+append_right xs ys n h = let e = length-append xs ys in omega (arith, e, h)
+
+module_shown : (n : ℕ) (m : ScriptModule) → length (file_grammar.script_module.spell m) ≤ n → AreShown n m.script.lines
+unfolding file_grammar.script_module
+module_shown n m h = long_shown m.script n (append_left (sequence.spell m.script) (Fixed CloseBrace ∷ []) n (omega (arith, h)))
+
+rest_shown : (n : ℕ) (r : ModuleRest) → length (file_grammar.module_rest.spell r) ≤ n → RestShown n r
+unfolding file_grammar.module_rest
+rest_shown n (rests.End t) h = tt
+rest_shown n (rests.Script q e) h = long_shown q n (append_left (sequence.spell q) _ n h)
+rest_shown n (rests.Nested m e) h = module_shown n m (append_left (file_grammar.script_module.spell m) _ n h)
+
+enclosed_shown : (n : ℕ) (m : Enclosed) → length (file_grammar.enclosed.spell m) ≤ n → RestShown n m.rest
+unfolding file_grammar.enclosed
+enclosed_shown n m h =
+    let a = append_right (spell_some file_grammar.module_attributes m.attributes) (Leaf (Exactly OpenBrace) m.brace ∷ (spell_many file_grammar.function m.functions ++ file_grammar.module_rest.spell m.rest)) n (omega (arith, h)) in
+    rest_shown n m.rest (append_right (spell_many file_grammar.function m.functions) (file_grammar.module_rest.spell m.rest) n (omega (arith, a)))
+
+item_shown : (n : ℕ) (i : Item) → length (file_grammar.item.spell i) ≤ n → ItemShown n i
+unfolding file_grammar.item
+item_shown n (items.Alias a) h = tt
+item_shown n (items.Function f) h = tt
+item_shown n (items.Module m) h = enclosed_shown n m h
+
+items_shown : (n : ℕ) (is : List Item) → length (spell_many file_grammar.item is) ≤ n → AllByRecursion (ItemShown n) is
+items_shown n [] h = tt
+items_shown n (i ∷ is) h = (item_shown n i (append_left (file_grammar.item.spell i) _ n h), items_shown n is (append_right (file_grammar.item.spell i) (spell_many file_grammar.item is) n h))
+
+pub text_shown : (n : ℕ) (t : Text) → length (file_grammar.text.spell t) ≤ n → AllByRecursion (ItemShown n) t.items
+unfolding file_grammar.text
+text_shown n t h = items_shown n t.items h

@@ -11,23 +11,24 @@ use Rattle.text_format.specs.Laws.{Matches}
 use Rattle.text_format.proofs.Printed.{spans_of_pieces, shapes_of_pieces}
 use Rattle.mlir_syntax.specs.Files.{text}
 use Rattle.mlir_syntax.specs.FileLaws.{text-whole}
-use Rattle.mlir_ir.specs.declared.tree.Module.{Module}
+use Rattle.mlir_file.specs.declared.file.File.{File}
 use Rattle.mlir_lex.specs.declared.fault.Fault.{Fault}
 use Rattle.mlir_lex.specs.declared.read_error.ReadError.{ReadError}
 use Rattle.mlir_lex.specs.Faults.{first_of}
 use Rattle.mlir_read.specs.Reading.{StandsFor, of_tree, of_tokens, of_lexed, reading}
 use Rattle.mlir_print.specs.Canonical.{text_at, text_of}
-use Rattle.mlir_print.specs.Renumbered.{renumbered}
 use Rattle.mlir_roundtrip.specs.Printable.{IsPrintable}
+use Rattle.mlir_roundtrip.specs.Numbered.{renumbered}
 use Rattle.mlir_roundtrip.proofs.FileSpaced.{text_spaced}
 use Rattle.mlir_roundtrip.proofs.FileSpelled.{text_spelled}
-use Rattle.mlir_roundtrip.proofs.Leaves.{matched}
+use Rattle.text_format.proofs.Written.{matched}
 use Rattle.mlir_roundtrip.proofs.FileFitting.{text_fits}
 use Rattle.mlir_roundtrip.proofs.FileRounds.{text_found}
 use Rattle.mlir_roundtrip.proofs.Symbols.{spelled_items}
 use Rattle.mlir_roundtrip.proofs.Short.{text_short}
 use Rattle.mlir_roundtrip.proofs.TokenCount.{few_tokens}
-use Rattle.mlir_roundtrip.proofs.Functions.{ModuleRead, module_is}
+use Rattle.mlir_roundtrip.proofs.Functions.{FileRead, file_is, text_shown}
+use Rattle.script_roundtrip.proofs.Shown.{matched_long}
 
 abbrev got : List TokenShape → Result (List TokenShape) lexed.Fault → List TokenShape
 got d (Ok x) = x
@@ -37,8 +38,8 @@ got d (Err e) = d
 texts_of : (ps : List Piece) → IsSpaced ps [] → tokens_in (bytes_of ps) (spans_at 0 ps) ≡ shapes_at 0 ps
 texts_of ps s = ap (got []) (sym (ap (with_texts (bytes_of ps)) (spans_of_pieces ps s)) ∙ shapes_of_pieces ps s)
 
--- The canonical text of a printable module stands for the module with the numbers of the text.
-pub canonical_stands : (m : Module) → IsPrintable m → StandsFor (text_of m) (renumbered m)
+-- The canonical text of a printable file stands for the file with the numbers of the text.
+pub canonical_stands : (m : File) → IsPrintable m → StandsFor (text_of m) (renumbered m)
 unfolding text_of
 canonical_stands m h =
     let ps = (text_at m).pieces in
@@ -54,26 +55,28 @@ canonical_stands m h =
     )
 
 -- What a text stands for is printable, and has the numbers of its canonical text.
-pub read_is_printable : (source : List ℕ) (m : Module) → length source ≤ 2 ^ 32 → StandsFor source m → ModuleRead m
-read_is_printable source m few st =
+pub read_is_printable : (source : List ℕ) (f : File) → length source ≤ 2 ^ 32 → StandsFor source f → FileRead f
+read_is_printable source f few st =
     let count = few_tokens source st.1.0 st.1.1 in
-    module_is st.0 m (text_short st.0 (tokens_in source st.1.0) st.1.2 (omega (arith, few, count))) (spelled_items source st.0 st.1.0 st.1.1 st.1.2) st.2
+    let e = matched_long (text.spell st.0) (tokens_in source st.1.0) st.1.2 in
+    file_is (length source) st.0 f (omega (arith, few)) (text_shown (length source) st.0 (omega (arith, count, e)))
+    (text_short st.0 (tokens_in source st.1.0) st.1.2 (omega (arith, few, count))) (spelled_items source st.0 st.1.0 st.1.1 st.1.2) st.2
 
 -- The canonical text of what a text stands for stands for it.
-pub reads_back : (source : List ℕ) (m : Module) → length source ≤ 2 ^ 32 → StandsFor source m → StandsFor (text_of m) m
-reads_back source m few st =
-    let r = read_is_printable source m few st in
-    subst (λ (x : Module). StandsFor (text_of m) x) r.number (canonical_stands m r.printable)
+pub reads_back : (source : List ℕ) (f : File) → length source ≤ 2 ^ 32 → StandsFor source f → StandsFor (text_of f) f
+reads_back source f few st =
+    let r = read_is_printable source f few st in
+    subst (λ (x : File). StandsFor (text_of f) x) r.number (canonical_stands f r.printable)
 
-abbrev read_in : Module → Result Module ReadError → Module
+abbrev read_in : File → Result File ReadError → File
 read_in d (Ok x) = x
 read_in d (Err e) = d
 
-read_is : (source : List ℕ) (m : Module) → StandsFor source m → reading source ≡ Ok m
+read_is : (source : List ℕ) (m : File) → StandsFor source m → reading source ≡ Ok m
 unfolding of_tokens end_of
 read_is source m st =
-    ap (of_lexed source) st.1.1 ∙ ap of_tree (is_read text text-whole (length source) st.0 (tokens_in source st.1.0) st.1.2) ∙ ap (λ (r : Result Module Fault). first_of r None) st.2
+    ap (of_lexed source) st.1.1 ∙ ap of_tree (is_read text text-whole (length source) st.0 (tokens_in source st.1.0) st.1.2) ∙ ap (λ (r : Result File Fault). first_of r None) st.2
 
--- A text stands for one module at most.
-pub stands_for_one : (source : List ℕ) (m n : Module) → StandsFor source m → StandsFor source n → m ≡ n
+-- A text stands for one file at most.
+pub stands_for_one : (source : List ℕ) (m n : File) → StandsFor source m → StandsFor source n → m ≡ n
 stands_for_one source m n a b = ap (read_in m) (sym (read_is source m a) ∙ read_is source n b)

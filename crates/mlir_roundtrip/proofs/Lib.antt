@@ -29,6 +29,7 @@ pub mod Readable
 pub mod Regions
 pub mod Rounds
 pub mod Rows
+mod Scripts
 pub mod Short
 pub mod Spaced
 pub mod Spelled
@@ -39,4 +40,3 @@ mod TokenCount
 mod Typed
 pub mod Usable
 pub mod Values
-mod Writing

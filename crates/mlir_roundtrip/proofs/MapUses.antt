@@ -1,5 +1,5 @@
 -- The maps that operations use, each by its alias.
-use Rattle.std.proofs.Common.{◌≡◌, ◌<◌, ◌≤◌, ◌^◌, subst, ℕ, Bool, true, false, not, List, [], ◌∷◌, ◌++◌, length, map, Option, Some, None, Ok, refl, sym, ap, ◌∙◌, arith, cond}
+use Rattle.std.proofs.Common.{◌≡◌, ◌<◌, ◌^◌, subst, ℕ, Bool, true, false, not, List, [], ◌∷◌, ◌++◌, length, map, Option, Some, None, Ok, refl, arith, cond}
 use Rattle.std.specs.List.{AllByRecursion}
 use Rattle.std.specs.Str.{bytes_eq}
 use Rattle.affine_maps.specs.Shape.{MapShape}
@@ -12,15 +12,15 @@ use Rattle.mlir_syntax.specs.declared.tree.maps.MapUse.TheVariants as uses
 use Rattle.mlir_syntax.specs.Maps as map_grammar
 use Rattle.mlir_lex.specs.declared.fault.Fault.TheVariants.{Unsupported}
 use Rattle.mlir_lex.specs.Chain.{demand, each}
-use Rattle.mlir_read.specs.Maps.{AliasShape, aliased, alias_map, map_of}
-use Rattle.mlir_read.proofs.Keeps.{then_ok}
+use Rattle.mlir_resolve.specs.Maps.{AliasShape, aliased, alias_map, map_of}
+use Rattle.mlir_resolve.proofs.Keeps.{then_ok}
 use Rattle.mlir_print.specs.Maps.{use_at, alias_of, maps_used}
 use Rattle.mlir_roundtrip.specs.Maps.{IsPrintableMap, ArePrintableMaps, HaveAliases, OpsHaveAliases, rows}
 use Rattle.mlir_roundtrip.proofs.Aliases.{use_found}
 use Rattle.mlir_roundtrip.proofs.MapsRead.{written_printable}
 use Rattle.mlir_roundtrip.proofs.Short.{IsShortUse}
-use Rattle.mlir_roundtrip.proofs.Writing.{IsWritten, AreWritten}
-use Rattle.mlir_roundtrip.proofs.Leaves.{AreFit}
+use Rattle.text_format.proofs.Written.{IsWritten, AreWritten}
+use Rattle.text_format.proofs.Written.{AreFit}
 use Rattle.mlir_roundtrip.proofs.Placing.{AreApart}
 use Rattle.mlir_roundtrip.proofs.ReadTypes.{ok_same}
 use Rattle.mlir_roundtrip.proofs.Regions.{Laid}

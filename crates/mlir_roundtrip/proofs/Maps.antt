@@ -1,5 +1,5 @@
 -- Maps as they are written: spelled, of their classes, well spaced, and read back.
-use Rattle.std.proofs.Common.{◌≡◌, ◌≤◌, ◌^◌, ℕ, zero, suc, ◌+◌, ◌==◌, Bool, true, false, cond, ℤ, pos, negsuc, List, [], ◌∷◌, ◌++◌, map, drop, length, unsigned_abs, codes, Ok, refl, sym, ap, subst, ◌∙◌}
+use Rattle.std.proofs.Common.{◌≡◌, ◌≤◌, ◌^◌, ℕ, zero, suc, ◌+◌, ◌==◌, Bool, true, false, cond, ℤ, pos, negsuc, List, [], ◌∷◌, ◌++◌, map, drop, length, unsigned_abs, Ok, refl, sym, ap, subst, ◌∙◌}
 use Rattle.std.specs.List.{AllByRecursion}
 use Rattle.affine_maps.specs.Shape.{MapShape}
 use Rattle.affine_maps.specs.Map.{IsMap}
@@ -8,30 +8,27 @@ use Rattle.affine_text.specs.Grammar.{Factor, Products, map_tokens}
 use Rattle.affine_text.specs.Text.{is_one, is_minus_one}
 use Rattle.affine_text.specs.Canonical as canonical
 use Rattle.affine_text.specs.Canonical.{map_front, map_pieces, map_tree}
-use Rattle.affine_text.specs.OfTokens.{map_of_tokens}
 use Rattle.affine_text.proofs.CanonicalFits.{map_fits}
 use Rattle.affine_text.proofs.CanonicalMeaning.{map_means}
 use Rattle.affine_text.proofs.CanonicalSpaced.{map_spaced}
 use Rattle.affine_text.proofs.CanonicalTokens.{shapes_append, map_spelled}
 use Rattle.affine_text.proofs.Lists.{reads_tree}
 use Rattle.text_format.specs.declared.class.Class.TheVariants.{Exactly, MapToken}
-use Rattle.text_format.specs.declared.front.Kind.TheVariants as kinds
 use Rattle.text_format.specs.declared.lexeme.Lexeme.TheVariants as lexemes
 use Rattle.text_format.specs.Lexemes.{lexeme_kind, lexeme_text}
 use Rattle.text_format.specs.Classes.{holds}
 use Rattle.text_format.specs.Token.{TokenShape}
-use Rattle.text_format.specs.Pieces as P
 use Rattle.text_format.specs.Pieces.{Piece, Gap, Fixed, Leaf, bytes_of, shapes_at, IsSpaced, Ends}
 use Rattle.text_format.specs.Formats as F
 use Rattle.text_format.proofs.Spacing.{IsApart, spaced_append}
 use Rattle.mlir_syntax.specs.declared.tree.maps.MapPiece.{MapPiece}
 use Rattle.mlir_syntax.specs.Maps as map_grammar
-use Rattle.mlir_read.specs.Maps.{tokens_of, written_map, map_or_fault, has_symbols}
-use Rattle.mlir_read.proofs.MapSymbols.{symbols_told}
-use Rattle.mlir_print.specs.Writers.{Writer, pair}
+use Rattle.mlir_resolve.specs.Maps.{tokens_of, written_map, map_or_fault, has_symbols}
+use Rattle.mlir_resolve.proofs.MapSymbols.{symbols_told}
+use Rattle.text_format.specs.Writers.{Writer, pair}
 use Rattle.mlir_print.specs.Maps.{map_token, inner_pieces, tokens_at, written_at}
-use Rattle.mlir_roundtrip.proofs.Leaves.{LeavesFit, both_fit}
-use Rattle.mlir_roundtrip.proofs.Writing.{spelled, spelled_append, IsWritten, put-w, pair-w, made-w}
+use Rattle.text_format.proofs.Written.{LeavesFit, both_fit}
+use Rattle.text_format.proofs.Written.{spelled, spelled_append, IsWritten, put-w, pair-w, made-w}
 
 -- ---- the tree is spelled
 

@@ -1,5 +1,5 @@
 -- The maps that are read are printable.
-use Rattle.std.proofs.Common.{◌≡◌, ◌≤◌, ◌^◌, ℕ, suc, ◌+◌, Bool, true, false, cond, List, [], ◌∷◌, ◌++◌, length, Option, Some, None, Result, Ok, Err, refl, sym, ap, subst, arith, length-append}
+use Rattle.std.proofs.Common.{◌≡◌, ◌≤◌, ◌^◌, ℕ, ◌+◌, Bool, true, false, cond, List, [], ◌∷◌, ◌++◌, length, Option, Some, None, Result, Ok, Err, refl, sym, ap, subst, arith, length-append}
 use Rattle.affine_maps.specs.Shape.{MapShape}
 use Rattle.affine_maps.specs.Map.{IsMap}
 use Rattle.affine_maps.specs.declared.map.Expr.{Expr}
@@ -13,8 +13,7 @@ use Rattle.affine_text.proofs.Lists.{told, whole_is_map}
 use Rattle.text_format.specs.Token.{TokenShape}
 use Rattle.std.proofs.Common.{codes}
 use Rattle.mlir_syntax.specs.declared.tree.maps.WrittenMap.{WrittenMap}
-use Rattle.mlir_lex.specs.declared.fault.Fault.{Fault}
-use Rattle.mlir_read.specs.Maps.{tokens_of, written_map, map_or_fault}
+use Rattle.mlir_resolve.specs.Maps.{tokens_of, written_map, map_or_fault}
 use Rattle.mlir_roundtrip.specs.Maps.{IsPrintableMap}
 use Rattle.mlir_roundtrip.proofs.ReadTypes.{ok_same}
 

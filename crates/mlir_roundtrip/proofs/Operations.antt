@@ -43,17 +43,17 @@ use Rattle.mlir_syntax.specs.Structured as structured_grammar
 use Rattle.mlir_syntax.specs.Operations as operation_grammar
 use Rattle.mlir_lex.specs.declared.fault.Fault.TheVariants.{Limit, Number}
 use Rattle.mlir_lex.specs.Chain.{demand, each}
-use Rattle.mlir_read.specs.Names.{Entry}
-use Rattle.mlir_read.specs.Types.{type_at, elem_of}
-use Rattle.mlir_read.specs.Literals.{digits_value, is_negative, place_of_number}
-use Rattle.mlir_read.specs.Scope.{value, same_operand, typed_as, value_id, type_of}
-use Rattle.mlir_read.specs.Payload.{parts_of, payload_of}
-use Rattle.mlir_read.specs.Maps.{AliasShape, map_of}
-use Rattle.mlir_read.specs.Generics.{iterator_in, iterator_of, iterators_from, operand_of, more_inputs, inputs_of, input_types, typed_inputs, typed_output, operands_of, generic_with, generic_of}
-use Rattle.mlir_read.specs.Structured.{is_axis, axis_of, typed_id, output_of, fill_of, factors_of, product_of, moved_of, transpose_of, broadcast_of}
-use Rattle.mlir_read.specs.Operations.{kind_of}
-use Rattle.mlir_read.proofs.Keeps.{then_ok}
-use Rattle.mlir_read.proofs.Fitting.{parts_fit}
+use Rattle.mlir_resolve.specs.Names.{Entry}
+use Rattle.mlir_resolve.specs.Types.{type_at, elem_of}
+use Rattle.mlir_resolve.specs.Literals.{digits_value, is_negative, place_of_number}
+use Rattle.mlir_resolve.specs.Scope.{value, same_operand, typed_as, value_id, type_of}
+use Rattle.mlir_resolve.specs.Payload.{parts_of, payload_of}
+use Rattle.mlir_resolve.specs.Maps.{AliasShape, map_of}
+use Rattle.mlir_resolve.specs.Generics.{iterator_in, iterator_of, iterators_from, operand_of, more_inputs, inputs_of, input_types, typed_inputs, typed_output, operands_of, generic_with, generic_of}
+use Rattle.mlir_resolve.specs.Structured.{is_axis, axis_of, typed_id, output_of, fill_of, factors_of, product_of, moved_of, transpose_of, broadcast_of}
+use Rattle.mlir_resolve.specs.Operations.{kind_of}
+use Rattle.mlir_resolve.proofs.Keeps.{then_ok}
+use Rattle.mlir_resolve.proofs.Fitting.{parts_fit}
 use Rattle.mlir_print.specs.Names.{Row}
 use Rattle.mlir_print.specs.Renumbered.{number_in, kind_renumbered}
 use Rattle.mlir_roundtrip.specs.Printable.{IsDefined, row_in, elem_in, IsTensorValue, IsScalarValue, IsPrintableProduct, IsPrintableKind, IsPrintableStep}

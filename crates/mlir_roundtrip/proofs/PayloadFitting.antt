@@ -18,7 +18,7 @@ use Rattle.text_format.specs.Pieces.{Piece}
 use Rattle.mlir_print.specs.declared.names.Given.{Given}
 use Rattle.mlir_print.specs.declared.names.Given.TheVariants.{Argument}
 use Rattle.mlir_print.specs.Names.{local_name}
-use Rattle.mlir_print.specs.Writers.{each_of}
+use Rattle.text_format.specs.Writers.{each_of}
 use Rattle.mlir_print.specs.Payloads.{next_args_at, block_args_at, step_at, steps_at, region_at, elem_or, type_in as arg_type_in, operation_at as step_operation_at}
 use Rattle.text_format.specs.Classes.{holds}
 use Rattle.text_format.specs.Types.{is_some, element_of}
@@ -28,17 +28,18 @@ use Rattle.payload_ops.specs.declared.kinds.Predicate.{Predicate}
 use Rattle.payload_ops.specs.declared.kinds.Predicate.TheVariants as predicates
 use Rattle.payload_ops.specs.declared.step.StepOp.TheVariants as ops
 use Rattle.payload_ops.specs.Bits.{signed_of}
-use Rattle.mlir_read.specs.declared.words.Cast.{Cast}
-use Rattle.mlir_read.specs.declared.words.Cast.TheVariants as changes
-use Rattle.mlir_read.specs.Words.{binary_text, predicate_text, cast_text}
-use Rattle.mlir_read.specs.Literals.{is_written}
+use Rattle.mlir_resolve.specs.declared.words.Cast.{Cast}
+use Rattle.mlir_resolve.specs.declared.words.Cast.TheVariants as changes
+use Rattle.mlir_resolve.specs.Words.{binary_text, predicate_text, cast_text}
+use Rattle.mlir_resolve.specs.Literals.{is_written}
 use Rattle.mlir_print.specs.Literals.{truth_text, number_at, literal_if, literal_at}
 use Rattle.mlir_roundtrip.specs.Printable.{IsPrintableOp, IsPrintableStep}
 use Rattle.mlir_roundtrip.proofs.Fits.{arg_text, cast_found, mapped, narrowing_found, one_found, widening_found}
 use Rattle.mlir_roundtrip.proofs.Readable.{elem_some}
 use Rattle.mlir_roundtrip.proofs.Rows.{IsSmall}
 use Rattle.mlir_roundtrip.proofs.Regions.{all_last}
-use Rattle.mlir_roundtrip.proofs.Leaves.{AreFit, IsWrittenElem, LeavesFit, both_fit, each_fit, given_new}
+use Rattle.text_format.proofs.Written.{AreFit, LeavesFit, both_fit, each_fit}
+use Rattle.mlir_roundtrip.proofs.Leaves.{IsWrittenElem, given_new}
 
 -- ---- payloads
 

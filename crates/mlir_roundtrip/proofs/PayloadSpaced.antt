@@ -26,7 +26,7 @@ use Rattle.mlir_syntax.specs.declared.tree.payloads.NextArg.{NextArg}
 use Rattle.mlir_print.specs.declared.names.Given.{Given}
 use Rattle.mlir_print.specs.Types.{elem_text}
 use Rattle.mlir_print.specs.Names.{given_text, local_name}
-use Rattle.mlir_print.specs.Writers.{Writer, each_of}
+use Rattle.text_format.specs.Writers.{Writer, each_of}
 use Rattle.mlir_print.specs.Payloads.{block_arg_at, next_arg_at, next_args_at, block_args_at, step_at, steps_at, region_at, new_line, elem_or, type_in as arg_type_in, conversion_at, cast_at, operation_at as step_operation_at}
 use Rattle.payload_ops.specs.declared.kinds.BinOp.{BinOp}
 use Rattle.payload_ops.specs.declared.kinds.BinOp.TheVariants as binaries
@@ -35,10 +35,10 @@ use Rattle.payload_ops.specs.declared.kinds.Predicate.TheVariants as predicates
 use Rattle.payload_ops.specs.declared.step.StepOp.TheVariants as ops
 use Rattle.payload_ops.specs.Bits.{signed_of}
 use Rattle.payload_ops.proofs.Words.{signed-low, signed-high}
-use Rattle.mlir_read.specs.declared.words.Cast.{Cast}
-use Rattle.mlir_read.specs.declared.words.Cast.TheVariants as changes
-use Rattle.mlir_read.specs.Words.{binary_text, predicate_text, cast_text}
-use Rattle.mlir_read.specs.Literals.{is_written}
+use Rattle.mlir_resolve.specs.declared.words.Cast.{Cast}
+use Rattle.mlir_resolve.specs.declared.words.Cast.TheVariants as changes
+use Rattle.mlir_resolve.specs.Words.{binary_text, predicate_text, cast_text}
+use Rattle.mlir_resolve.specs.Literals.{is_written}
 use Rattle.mlir_print.specs.Literals.{truth_text, number_at, literal_if, literal_at}
 use Rattle.text_format.specs.declared.lexeme.Lexeme.{Lexeme}
 use Rattle.mlir_roundtrip.specs.Printable.{IsPrintableOp, IsPrintableStep}

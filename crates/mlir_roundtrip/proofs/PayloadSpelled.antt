@@ -30,14 +30,14 @@ use Rattle.mlir_syntax.specs.Steps as step_grammar
 use Rattle.mlir_syntax.specs.Payloads as payload_grammar
 use Rattle.mlir_print.specs.declared.names.Given.{Given}
 use Rattle.mlir_print.specs.Names.{local_name}
-use Rattle.mlir_print.specs.Writers.{Writer, keep, made}
-use Rattle.mlir_read.specs.declared.words.Cast.{Cast}
-use Rattle.mlir_read.specs.declared.words.Cast.TheVariants as changes
+use Rattle.text_format.specs.Writers.{Writer, keep, made}
+use Rattle.mlir_resolve.specs.declared.words.Cast.{Cast}
+use Rattle.mlir_resolve.specs.declared.words.Cast.TheVariants as changes
 use Rattle.mlir_print.specs.Literals.{number_at, literal_if, literal_at}
 use Rattle.mlir_print.specs.Payloads.{block_arg_at, next_arg_at, next_args_at, block_args_at, type_in, constant_at, binary_at, compare_at, select_at, conversion_at, cast_at, index_cast_at, index_at, operation_at as step_operation_at, step_at, steps_at, region_at, new_line}
 use Rattle.text_format.specs.Pieces as P
 use Rattle.mlir_roundtrip.specs.Printable.{IsPrintableOp, IsPrintableStep}
-use Rattle.mlir_roundtrip.proofs.Writing.{IsWritten, AreWritten, put-w, lay-w, gap-w, sp-w, pair-w, made-w, before-w, many-w}
+use Rattle.text_format.proofs.Written.{IsWritten, AreWritten, put-w, lay-w, gap-w, sp-w, pair-w, made-w, before-w, many-w}
 
 block_arg-w : (a : ℕ) (e : ElemTy) → IsWritten payload_grammar.block_arg (block_arg_at a e)
 unfolding payload_grammar.block_arg

@@ -20,7 +20,7 @@ use Rattle.mlir_print.specs.declared.names.Given.{Given}
 use Rattle.mlir_print.specs.declared.names.Given.TheVariants.{Argument, Result}
 use Rattle.mlir_print.specs.Types.{ty_text, type_kind, elem_text, extents_text}
 use Rattle.mlir_print.specs.Names.{Row, given_text, name_in, type_in, kind_in, name_or, type_or, kind_or}
-use Rattle.mlir_print.specs.Writers.{Writer, each_of, commas, after_comma}
+use Rattle.text_format.specs.Writers.{Writer, each_of, commas, after_comma}
 use Rattle.mlir_roundtrip.specs.Printable.{AreKept, IsTensorType, IsIntegerType, IsValueType, IsScalar, IsDefined, IsTensorValue, IsScalarValue, row_in}
 use Rattle.mlir_roundtrip.proofs.Readable.{type_text}
 use Rattle.mlir_roundtrip.proofs.Rows.{IsSmall, RowsFit, type_there, tensor_type, defined_type}

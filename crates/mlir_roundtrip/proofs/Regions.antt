@@ -21,22 +21,22 @@ use Rattle.payload_ops.specs.Payload.{is_elem, is_narrower, arg_type, has_type, 
 use Rattle.text_format.specs.Token.{TokenShape}
 use Rattle.mlir_syntax.specs.declared.tree.payloads.NextArg.{NextArg}
 use Rattle.mlir_syntax.specs.declared.tree.payloads.Step.{Step}
-use Rattle.mlir_read.specs.declared.names.Meaning.TheVariants.{Local}
+use Rattle.mlir_resolve.specs.declared.names.Meaning.TheVariants.{Local}
 use Rattle.mlir_lex.specs.Chain.{and_then}
-use Rattle.mlir_read.specs.Names.{Entry, entry, find}
-use Rattle.mlir_read.specs.declared.names.Inside.{Inside}
+use Rattle.mlir_resolve.specs.Names.{Entry, entry, find}
+use Rattle.mlir_resolve.specs.declared.names.Inside.{Inside}
 use Rattle.mlir_lex.specs.declared.fault.Fault.{Fault}
-use Rattle.mlir_read.specs.declared.words.Cast.{Cast}
-use Rattle.mlir_read.specs.declared.words.Cast.TheVariants as changes
-use Rattle.mlir_read.specs.Words.{binary_text, predicate_text, cast_text, named_binary, named_predicate, named_cast}
-use Rattle.mlir_read.specs.Steps.{is_integer, with_step, operation_of, step_of, steps_of}
-use Rattle.mlir_read.specs.Payload.{locals_of, arg_of, more_args, block_args, payload_of}
+use Rattle.mlir_resolve.specs.declared.words.Cast.{Cast}
+use Rattle.mlir_resolve.specs.declared.words.Cast.TheVariants as changes
+use Rattle.mlir_resolve.specs.Words.{binary_text, predicate_text, cast_text, named_binary, named_predicate, named_cast}
+use Rattle.mlir_resolve.specs.Steps.{is_integer, with_step, operation_of, step_of, steps_of}
+use Rattle.mlir_resolve.specs.Payload.{locals_of, arg_of, more_args, block_args, payload_of}
 use Rattle.mlir_print.specs.declared.names.Given.{Given}
 use Rattle.mlir_print.specs.Types.{elem_text}
 use Rattle.mlir_print.specs.Names.{given_text, local_name}
-use Rattle.mlir_print.specs.Writers.{Writer, each_of}
+use Rattle.text_format.specs.Writers.{Writer, each_of}
 use Rattle.mlir_print.specs.Payloads.{next_args_at, block_args_at, elem_or, type_in, operation_at, step_at, steps_at, region_at}
-use Rattle.mlir_read.specs.Literals.{is_written}
+use Rattle.mlir_resolve.specs.Literals.{is_written}
 use Rattle.mlir_roundtrip.specs.Printable.{IsPrintableOp, IsPrintableStep}
 use Rattle.mlir_roundtrip.proofs.Numbers.{Good, elem_good, good_read, decimal_value, literal_read}
 use Rattle.mlir_roundtrip.proofs.Envs.{arg_name, result_name, find_more, find_new, IsCanon, AreCanon, Small, fresh_arg, fresh_result}

@@ -1,5 +1,5 @@
 -- A text that is not too long has short maps, and few at one operation.
-use Rattle.std.proofs.Common.{◌≡◌, ◌≤◌, ◌^◌, ℕ, suc, ◌+◌, List, [], ◌∷◌, ◌++◌, length, map, arith, length-append}
+use Rattle.std.proofs.Common.{◌≡◌, ◌≤◌, ◌^◌, List, [], ◌∷◌, ◌++◌, length, map, arith, length-append}
 use Rattle.std.specs.List.{AllByRecursion}
 use Rattle.std.proofs.lemmas.List.{length-map}
 use Rattle.text_format.specs.Token.{TokenShape}
@@ -16,6 +16,11 @@ use Rattle.mlir_syntax.specs.declared.tree.operations.Operation.{Operation}
 use Rattle.mlir_syntax.specs.declared.tree.operations.Operation.TheVariants as operations
 use Rattle.mlir_syntax.specs.declared.tree.operations.Statement.{Statement}
 use Rattle.mlir_syntax.specs.declared.tree.files.Function.{Function}
+use Rattle.mlir_syntax.specs.declared.tree.files.FunctionsEnd.{FunctionsEnd}
+use Rattle.mlir_syntax.specs.declared.tree.files.ModuleRest.{ModuleRest}
+use Rattle.mlir_syntax.specs.declared.tree.files.ModuleRest.TheVariants as rests
+use Rattle.mlir_syntax.specs.declared.tree.files.Enclosed.{Enclosed}
+use Rattle.script_syntax.specs.Lines.{sequence}
 use Rattle.mlir_syntax.specs.declared.tree.files.Item as items
 use Rattle.mlir_syntax.specs.declared.tree.files.Item.TheVariants as kinds
 use Rattle.mlir_syntax.specs.declared.tree.files.Text.{Text}
@@ -23,7 +28,7 @@ use Rattle.mlir_syntax.specs.Maps as map_grammar
 use Rattle.mlir_syntax.specs.Generics as generic_grammar
 use Rattle.mlir_syntax.specs.Operations as operation_grammar
 use Rattle.mlir_syntax.specs.Files as file_grammar
-use Rattle.mlir_read.specs.Maps.{tokens_of}
+use Rattle.mlir_resolve.specs.Maps.{tokens_of}
 
 pub record Short (is : List Item) : Type 0 where
   pub few : length is ≤ 2 ^ 32
@@ -144,16 +149,37 @@ functions_short : (fs : List Function) → Short (spell_many file_grammar.functi
 functions_short [] h = tt
 functions_short (f ∷ fs) h = (function_short f (left (file_grammar.function.spell f) (spell_many file_grammar.function fs) h), functions_short fs (right (file_grammar.function.spell f) (spell_many file_grammar.function fs) h))
 
+abbrev pub IsShortRest : ModuleRest → Type 0
+IsShortRest (rests.End t) = Unit {0}
+IsShortRest (rests.Script q e) = AllByRecursion IsShortFunction e.functions
+IsShortRest (rests.Nested m e) = AllByRecursion IsShortFunction e.functions
+
+end_short : (e : FunctionsEnd) → Short (file_grammar.functions_end.spell e) → AllByRecursion IsShortFunction e.functions
+unfolding file_grammar.functions_end
+end_short e h = functions_short e.functions (left (spell_many file_grammar.function e.functions) _ h)
+
+rest_short : (r : ModuleRest) → Short (file_grammar.module_rest.spell r) → IsShortRest r
+unfolding file_grammar.module_rest
+rest_short (rests.End t) h = tt
+rest_short (rests.Script q e) h = end_short e (right (sequence.spell q) (file_grammar.functions_end.spell e) h)
+rest_short (rests.Nested m e) h = end_short e (right (file_grammar.script_module.spell m) (file_grammar.functions_end.spell e) h)
+
 abbrev pub IsShortItem : items.Item → Type 0
 IsShortItem (kinds.Alias a) = IsShortMap a.map
 IsShortItem (kinds.Function f) = IsShortFunction f
-IsShortItem (kinds.Module m) = AllByRecursion IsShortFunction m.functions
+IsShortItem (kinds.Module m) = AllByRecursion IsShortFunction m.functions × IsShortRest m.rest
+
+enclosed_short : (m : Enclosed) → Short (file_grammar.enclosed.spell m) → AllByRecursion IsShortFunction m.functions × IsShortRest m.rest
+unfolding file_grammar.enclosed
+enclosed_short m h =
+    let a = tail (right (spell_some file_grammar.module_attributes m.attributes) _ (tail h)) in
+    (functions_short m.functions (left (spell_many file_grammar.function m.functions) (file_grammar.module_rest.spell m.rest) a), rest_short m.rest (right (spell_many file_grammar.function m.functions) (file_grammar.module_rest.spell m.rest) a))
 
 item_short : (i : items.Item) → Short (file_grammar.item.spell i) → IsShortItem i
-unfolding file_grammar.item file_grammar.enclosed file_grammar.alias_line
+unfolding file_grammar.item file_grammar.alias_line
 item_short (kinds.Alias a) h = map_short a.map (tail (tail h))
 item_short (kinds.Function f) h = function_short f h
-item_short (kinds.Module m) h = functions_short m.functions (left (spell_many file_grammar.function m.functions) _ (tail (tail h)))
+item_short (kinds.Module m) h = enclosed_short m h
 
 items_short : (is : List items.Item) → Short (spell_many file_grammar.item is) → AllByRecursion IsShortItem is
 items_short [] h = tt

@@ -21,12 +21,12 @@ use Rattle.text_format.specs.declared.lexeme.Lexeme.TheVariants as lexemes
 use Rattle.text_format.specs.Lexemes.{lexeme_kind, lexeme_text}
 use Rattle.text_format.specs.Pieces.{Piece, Gap, Fixed, Leaf}
 use Rattle.text_format.proofs.Spacing.{IsApart, result_name, decimal_name, lexeme_name, none_apart, none_opens, space, fixed_closed, fixed_word, leaf_name, leaf_closed, append_apart, append_opens, space_opens, fixed_opens, quoted_closed, is_minus}
-use Rattle.mlir_read.specs.Types.{elem_of}
+use Rattle.mlir_resolve.specs.Types.{elem_of}
 use Rattle.mlir_print.specs.declared.names.Given.TheVariants.{Result}
 use Rattle.mlir_print.specs.Types.{ty_text}
 use Rattle.mlir_print.specs.Names.{Names, Row, row_of}
 use Rattle.mlir_print.specs.Maps.{use_at, maps_used}
-use Rattle.mlir_print.specs.Writers.{each_of, commas}
+use Rattle.text_format.specs.Writers.{each_of, commas}
 use Rattle.mlir_print.specs.Payloads.{region_at}
 use Rattle.mlir_print.specs.Generics.{iterator_at, next_input_at, next_type_at, input_types_at, inputs_at, output_at, operands_at, generic_at}
 use Rattle.mlir_print.specs.Structured.{fill_at, factors_at, moved_at, axis_at, axes_at, transpose_at, broadcast_at}

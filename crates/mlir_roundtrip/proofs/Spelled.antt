@@ -32,7 +32,7 @@ use Rattle.mlir_syntax.specs.Generics as generic_grammar
 use Rattle.mlir_syntax.specs.Structured as structured_grammar
 use Rattle.mlir_syntax.specs.Operations as operation_grammar
 use Rattle.mlir_print.specs.Names.{Names, Row}
-use Rattle.mlir_print.specs.Writers.{Writer, made, commas}
+use Rattle.text_format.specs.Writers.{Writer, made, commas}
 use Rattle.mlir_print.specs.Literals.{literal_at}
 use Rattle.mlir_print.specs.Maps.{use_at}
 use Rattle.mlir_print.specs.Constants.{Word, word_at, dense_words, dense_at, constant_at}
@@ -40,7 +40,7 @@ use Rattle.mlir_print.specs.Generics.{iterator_at, next_input_at, next_type_at, 
 use Rattle.mlir_print.specs.Structured.{fill_at, factors_at, matmul_at, batch_matmul_at, moved_at, axis_at, axes_at, transpose_at, broadcast_at}
 use Rattle.mlir_print.specs.Operations.{empty_at, scalar_if, constant_if, operation_at, line_at}
 use Rattle.mlir_roundtrip.specs.Printable.{IsPrintableStep, IsPrintableScalar, IsPrintableConstant, IsPrintableKind, IsPrintableLine}
-use Rattle.mlir_roundtrip.proofs.Writing.{spelled_append, IsWritten, AreWritten, put-w, lay-w, gap-w, sp-w, pair-w, made-w, before-w, blank-w, many-w, list-w, commas_spelled}
+use Rattle.text_format.proofs.Written.{spelled_append, IsWritten, AreWritten, put-w, lay-w, gap-w, sp-w, pair-w, made-w, before-w, blank-w, many-w, list-w, commas_spelled}
 use Rattle.mlir_roundtrip.proofs.MapUses.{uses-w}
 use Rattle.mlir_roundtrip.proofs.PayloadSpelled.{number-w, literal-w, region-w}
 

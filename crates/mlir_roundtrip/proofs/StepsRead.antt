@@ -19,22 +19,22 @@ use Rattle.mlir_syntax.specs.declared.tree.payloads.Step.{Step}
 use Rattle.mlir_syntax.specs.declared.tree.payloads.Region.{Region}
 use Rattle.mlir_lex.specs.declared.fault.Fault.{Fault}
 use Rattle.mlir_lex.specs.declared.fault.Fault.TheVariants.{Limit, TypeDiffers, Number}
-use Rattle.mlir_read.specs.declared.names.Meaning.{Meaning}
-use Rattle.mlir_read.specs.declared.names.Meaning.TheVariants.{Held, Constant, Local}
-use Rattle.mlir_read.specs.declared.names.Inside.{Inside}
-use Rattle.mlir_read.specs.declared.words.Cast.{Cast}
-use Rattle.mlir_read.specs.declared.words.Cast.TheVariants as changes
-use Rattle.mlir_read.specs.Names.{Entry, find}
+use Rattle.mlir_resolve.specs.declared.names.Meaning.{Meaning}
+use Rattle.mlir_resolve.specs.declared.names.Meaning.TheVariants.{Held, Constant, Local}
+use Rattle.mlir_resolve.specs.declared.names.Inside.{Inside}
+use Rattle.mlir_resolve.specs.declared.words.Cast.{Cast}
+use Rattle.mlir_resolve.specs.declared.words.Cast.TheVariants as changes
+use Rattle.mlir_resolve.specs.Names.{Entry, find}
 use Rattle.mlir_lex.specs.Chain.{demand}
-use Rattle.mlir_read.specs.Types.{same_elem}
-use Rattle.mlir_read.specs.Literals.{digits_value, elem_at, literal_of, is_near, is_written}
-use Rattle.mlir_read.specs.Words.{named_binary, named_predicate, named_cast}
-use Rattle.mlir_read.specs.Scope.{IsHeld, IsOuter}
-use Rattle.mlir_read.specs.Steps.{fresh_in, with_step, constant_step, brought, argument_by, argument, named, converted, is_integer, changes_width, cast_op, operation_of as step_operation_of, name_in, room as step_room, step_of, steps_of}
-use Rattle.mlir_read.specs.Payload.{locals_of, block_args, parts_of}
-use Rattle.mlir_read.proofs.Keeps.{then_ok}
-use Rattle.mlir_read.proofs.Fitting.{found_held}
-use Rattle.mlir_read.proofs.Ranges.{element_written, elem_written, literal_is}
+use Rattle.mlir_resolve.specs.Types.{same_elem}
+use Rattle.mlir_resolve.specs.Literals.{digits_value, elem_at, literal_of, is_near, is_written}
+use Rattle.mlir_resolve.specs.Words.{named_binary, named_predicate, named_cast}
+use Rattle.mlir_resolve.specs.Scope.{IsHeld, IsOuter}
+use Rattle.mlir_resolve.specs.Steps.{fresh_in, with_step, constant_step, brought, argument_by, argument, named, converted, is_integer, changes_width, cast_op, operation_of as step_operation_of, name_in, room as step_room, step_of, steps_of}
+use Rattle.mlir_resolve.specs.Payload.{locals_of, block_args, parts_of}
+use Rattle.mlir_resolve.proofs.Keeps.{then_ok}
+use Rattle.mlir_resolve.proofs.Fitting.{found_held}
+use Rattle.mlir_resolve.proofs.Ranges.{element_written, elem_written, literal_is}
 use Rattle.mlir_roundtrip.proofs.Fits.{found_type}
 use Rattle.mlir_roundtrip.proofs.Regions.{all_last}
 use Rattle.mlir_roundtrip.specs.Printable.{IsPrintableOp, IsPrintableStep}

@@ -29,6 +29,11 @@ use Rattle.mlir_syntax.specs.declared.tree.files.Text.{Text}
 use Rattle.mlir_syntax.specs.Operations as operation_grammar
 use Rattle.mlir_syntax.specs.Files as file_grammar
 use Rattle.mlir_read.specs.Resolve.{symbol_of}
+use Rattle.mlir_syntax.specs.declared.tree.files.FunctionsEnd.{FunctionsEnd}
+use Rattle.mlir_syntax.specs.declared.tree.files.ModuleRest.{ModuleRest}
+use Rattle.mlir_syntax.specs.declared.tree.files.ModuleRest.TheVariants as rests
+use Rattle.mlir_syntax.specs.declared.tree.files.Enclosed.{Enclosed}
+use Rattle.script_syntax.specs.Lines.{sequence}
 
 -- ---- one token
 
@@ -239,10 +244,16 @@ pub record FunctionIs (f : Function) : Type 0 where
   pub statements : AllByRecursion StatementIs f.statements
   pub returned : AreLeaves (file_grammar.returned.spell f.returned)
 
+-- the functions behind a script
+abbrev pub RestIs : ModuleRest → Type 0
+RestIs (rests.End t) = Unit {0}
+RestIs (rests.Script q e) = AllByRecursion FunctionIs e.functions
+RestIs (rests.Nested m e) = AllByRecursion FunctionIs e.functions
+
 abbrev pub ItemIs : items.Item → Type 0
 ItemIs (kinds.Alias a) = Unit {0}
 ItemIs (kinds.Function f) = FunctionIs f
-ItemIs (kinds.Module m) = AllByRecursion FunctionIs m.functions
+ItemIs (kinds.Module m) = AllByRecursion FunctionIs m.functions × RestIs m.rest
 
 statements_are : (ss : List Statement) → AreLeaves (spell_many operation_grammar.statement ss) → AllByRecursion StatementIs ss
 statements_are [] h = tt
@@ -265,11 +276,27 @@ functions_are [] h = tt
 functions_are (f ∷ fs) h =
     (function_is f (leaves_left (file_grammar.function.spell f) (spell_many file_grammar.function fs) h), functions_are fs (leaves_right (file_grammar.function.spell f) (spell_many file_grammar.function fs) h))
 
+end_is : (e : FunctionsEnd) → AreLeaves (file_grammar.functions_end.spell e) → AllByRecursion FunctionIs e.functions
+unfolding file_grammar.functions_end
+end_is e h = functions_are e.functions (leaves_left (spell_many file_grammar.function e.functions) _ h)
+
+rest_is : (r : ModuleRest) → AreLeaves (file_grammar.module_rest.spell r) → RestIs r
+unfolding file_grammar.module_rest
+rest_is (rests.End t) h = tt
+rest_is (rests.Script q e) h = end_is e (leaves_right (sequence.spell q) (file_grammar.functions_end.spell e) h)
+rest_is (rests.Nested m e) h = end_is e (leaves_right (file_grammar.script_module.spell m) (file_grammar.functions_end.spell e) h)
+
+enclosed_is : (m : Enclosed) → AreLeaves (file_grammar.enclosed.spell m) → AllByRecursion FunctionIs m.functions × RestIs m.rest
+unfolding file_grammar.enclosed
+enclosed_is m h =
+    let a = (leaves_right (spell_some file_grammar.module_attributes m.attributes) _ h.1).1 in
+    (functions_are m.functions (leaves_left (spell_many file_grammar.function m.functions) (file_grammar.module_rest.spell m.rest) a), rest_is m.rest (leaves_right (spell_many file_grammar.function m.functions) (file_grammar.module_rest.spell m.rest) a))
+
 item_is : (i : items.Item) → AreLeaves (file_grammar.item.spell i) → ItemIs i
-unfolding file_grammar.item file_grammar.enclosed
+unfolding file_grammar.item
 item_is (kinds.Alias a) h = tt
 item_is (kinds.Function f) h = function_is f h
-item_is (kinds.Module m) h = functions_are m.functions (leaves_left (spell_many file_grammar.function m.functions) _ h.1)
+item_is (kinds.Module m) h = enclosed_is m h
 
 items_are : (is : List items.Item) → AreLeaves (spell_many file_grammar.item is) → AllByRecursion ItemIs is
 items_are [] h = tt

@@ -1,5 +1,5 @@
 -- A text has no more tokens than bytes.
-use Rattle.std.proofs.Common.{◌≡◌, ◌≤◌, ℕ, zero, suc, ◌+◌, List, [], ◌∷◌, drop, length, map, Ok, Err, refl, sym, ap, arith}
+use Rattle.std.proofs.Common.{◌≡◌, ◌≤◌, ℕ, zero, suc, ◌+◌, List, [], ◌∷◌, drop, length, Ok, Err, refl, ap, arith}
 use Rattle.std.proofs.Common.{Result as Answer}
 use Rattle.std.proofs.lemmas.List.{length-map}
 use Rattle.text_format.specs.declared.front.Front.{Front}

@@ -8,11 +8,11 @@ use Rattle.mlir_ir.specs.declared.tree.Ty.TheVariants.{Scalar, Tensor, Vector}
 use Rattle.mlir_ir.specs.declared.tree.OpKind.{OpKind}
 use Rattle.mlir_ir.specs.declared.tree.OpKind.TheVariants as kinds
 use Rattle.text_format.specs.Token.{TokenShape}
-use Rattle.mlir_read.specs.declared.names.Meaning.{Meaning}
-use Rattle.mlir_read.specs.Names.{Entry, entry, find}
-use Rattle.mlir_read.specs.Types.{elem_of}
-use Rattle.mlir_read.specs.Scope.{held, value, IsHeld, IsOuter}
-use Rattle.mlir_read.specs.Constants.{result_meaning}
+use Rattle.mlir_resolve.specs.declared.names.Meaning.{Meaning}
+use Rattle.mlir_resolve.specs.Names.{Entry, entry, find}
+use Rattle.mlir_resolve.specs.Types.{elem_of}
+use Rattle.mlir_resolve.specs.Scope.{held, value, IsHeld, IsOuter}
+use Rattle.mlir_resolve.specs.Constants.{result_meaning}
 use Rattle.mlir_print.specs.declared.names.Given.{Given}
 use Rattle.mlir_print.specs.Names.{Row, look, spot, row_of}
 use Rattle.mlir_print.specs.Renumbered.{number_in}

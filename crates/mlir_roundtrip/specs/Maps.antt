@@ -8,7 +8,7 @@ use Rattle.affine_text.specs.Text.{text_of_map}
 use Rattle.mlir_ir.specs.declared.tree.Op.{Op}
 use Rattle.mlir_ir.specs.Shape.{FuncShape}
 use Rattle.mlir_read.specs.declared.files.FileScope.{FileScope}
-use Rattle.mlir_read.specs.Maps.{AliasShape}
+use Rattle.mlir_resolve.specs.Maps.{AliasShape}
 use Rattle.mlir_print.specs.Maps.{alias_text, maps_used}
 
 -- a map whose dimensions are numbered by 32 bits
@@ -47,4 +47,4 @@ rows n [] = []
 rows n (m ∷ ms) = row n m ∷ rows (n + 1) ms
 
 abbrev pub with_aliases : FileScope → List AliasShape → FileScope
-with_aliases s entries = record { stage = s.stage; aliases = entries; functions = s.functions; values = s.values; ops = s.ops }
+with_aliases s entries = record { stage = s.stage; aliases = entries; functions = s.functions; values = s.values; ops = s.ops; script = s.script }

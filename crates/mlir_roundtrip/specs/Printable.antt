@@ -1,4 +1,4 @@
--- The modules whose canonical text reads back: those of today's grammar, within its limits.
+-- The files whose canonical text reads back: those of today's grammar, within its limits.
 use Rattle.std.specs.Prelude.{◌≡◌, ◌<◌, ◌≤◌, ◌^◌, ℕ, ◌+◌, true, List, [], ◌∷◌, ◌++◌, map, length, Option, Some, None}
 use Rattle.std.specs.List.{AllByRecursion}
 use Rattle.payload_ops.specs.declared.kinds.ElemTy.{ElemTy}
@@ -17,17 +17,19 @@ use Rattle.mlir_ir.specs.declared.tree.Iter.{Iter}
 use Rattle.mlir_ir.specs.declared.tree.OpKind.{OpKind}
 use Rattle.mlir_ir.specs.declared.tree.OpKind.TheVariants as kinds
 use Rattle.mlir_ir.specs.declared.tree.Op.{Op}
-use Rattle.mlir_ir.specs.declared.tree.Module.{Module}
 use Rattle.mlir_ir.specs.Shape.{FuncShape}
-use Rattle.mlir_read.specs.Names.{place}
-use Rattle.mlir_read.specs.Types.{elem_of, elements}
+use Rattle.mlir_resolve.specs.Names.{place}
+use Rattle.mlir_resolve.specs.Types.{elem_of, elements}
 use Rattle.text_format.specs.Types.{is_word}
 use Rattle.mlir_print.specs.declared.names.Given.TheVariants.{Argument}
 use Rattle.mlir_print.specs.Names.{Names, Row, look}
 use Rattle.mlir_print.specs.Operations.{next}
 use Rattle.mlir_print.specs.Canonical.{names_in}
 use Rattle.payload_ops.specs.declared.step.PayloadStep.{PayloadStep}
-use Rattle.mlir_read.specs.Literals.{is_near, is_written}
+use Rattle.mlir_resolve.specs.Literals.{is_near, is_written}
+use Rattle.script_read.specs.declared.script.Script.{Script}
+use Rattle.script_roundtrip.specs.Printable as scripts
+use Rattle.mlir_file.specs.declared.file.File.{File}
 use Rattle.mlir_roundtrip.specs.Maps.{ArePrintableMaps}
 
 -- fixed extents within the limit
@@ -216,7 +218,13 @@ abbrev pub operations_in : List FuncShape → ℕ
 operations_in [] = 0
 operations_in (f ∷ fs) = length f.body + operations_in fs
 
-pub record IsPrintable (m : Module) : Type 0 where
-  pub funcs : ArePrintable m.funcs
-  pub names : AreNew [] m.funcs
-  pub few_ops : operations_in m.funcs ≤ 65536
+-- the script, if there is one
+abbrev pub IsPrintableScript : Option Script → Type 0
+IsPrintableScript None = Unit {0}
+IsPrintableScript (Some s) = scripts.IsPrintable s
+
+pub record IsPrintable (f : File) : Type 0 where
+  pub funcs : ArePrintable f.module.funcs
+  pub names : AreNew [] f.module.funcs
+  pub few_ops : operations_in f.module.funcs ≤ 65536
+  pub script : IsPrintableScript f.script

@@ -2,25 +2,25 @@ ghost use Rattle.std.specs.Prelude.{◌≡◌, ◌<◌, ◌≤◌, ◌^◌, ℕ,
 ghost use Rattle.affine_maps.specs.Shape.{MapShape};
 ghost use Rattle.affine_text.specs.Text.{text_of_map};
 ghost use Rattle.mlir_ir.specs.Shape.{FuncShape};
-ghost use Rattle.mlir_ir.specs.declared.tree.Module.{Module};
 ghost use Rattle.mlir_read.specs.declared.files.FileScope.{FileScope};
-ghost use Rattle.mlir_read.specs.Maps.{aliased, map_of};
+ghost use Rattle.mlir_file.specs.declared.file.File.{File};
+ghost use Rattle.mlir_resolve.specs.Maps.{aliased, map_of};
 ghost use Rattle.mlir_read.specs.Reading.{StandsFor};
 ghost use Rattle.mlir_read.specs.Resolve.{alias_of};
 ghost use Rattle.mlir_print.specs.Canonical.{text_of};
 ghost use Rattle.mlir_print.specs.Maps.{alias_text, alias_line_at, use_at, with_funcs};
-ghost use Rattle.mlir_print.specs.Renumbered.{renumbered};
+ghost use Rattle.mlir_roundtrip.specs.Numbered.{renumbered};
 ghost use Rattle.mlir_roundtrip.specs.Maps.{IsPrintableMap, ArePrintableMaps, HasAlias, FuncsHaveAliases, row, rows, with_aliases};
 ghost use Rattle.mlir_roundtrip.specs.Printable.{IsPrintable};
 
 /// The law of reading and printing. There is nothing to run.
 pub fn canonical_text_reads_back()
     // The canonical text of what a text stands for stands for it. A text's places are numbers of 32 bits.
-    ensures read { (source : List ℕ) (m : Module) → length source ≤ 2 ^ 32 → StandsFor source m → StandsFor (text_of m) m }
-    // The canonical text of a printable module stands for the module with the numbers of the text.
-    ensures printable { (m : Module) → IsPrintable m → StandsFor (text_of m) (renumbered m) }
-    // A text stands for one module at most.
-    ensures one { (source : List ℕ) (m : Module) (n : Module) → StandsFor source m → StandsFor source n → m ≡ n }
+    ensures read { (source : List ℕ) (f : File) → length source ≤ 2 ^ 32 → StandsFor source f → StandsFor (text_of f) f }
+    // The canonical text of a printable file stands for the file with the numbers of the text.
+    ensures printable { (f : File) → IsPrintable f → StandsFor (text_of f) (renumbered f) }
+    // A text stands for one file at most.
+    ensures one { (source : List ℕ) (f : File) (g : File) → StandsFor source f → StandsFor source g → f ≡ g }
 {}
 
 /// The maps of a canonical text and their aliases. There is nothing to run.

@@ -4,12 +4,12 @@ use Rattle.std.proofs.Common.{inl, inr}
 use Rattle.text_format.specs.declared.class.Class.TheVariants.{Exactly, Name, Value, NewValue, NewValueAt, Symbol, TensorType, ItemStart}
 use Rattle.text_format.specs.declared.class.Class.TheVariants as classes
 use Rattle.text_format.specs.declared.class.Position.TheVariants as at
-use Rattle.text_format.specs.declared.lexeme.Lexeme.TheVariants.{OpenParenthesis, CloseParenthesis, OpenBrace, CloseBrace, Comma, Colon, Equals, Arrow, FuncFunc, Return, FuncReturn}
+use Rattle.text_format.specs.declared.lexeme.Lexeme.TheVariants.{OpenParenthesis, CloseParenthesis, OpenBrace, CloseBrace, Comma, Colon, Equals, Arrow, FuncFunc, Return, FuncReturn, Attributes, WithNamedSequence, NamedSequence}
 use Rattle.text_format.specs.declared.lexeme.Lexeme.TheVariants as lexemes
 use Rattle.text_format.specs.Token.{TokenShape}
-use Rattle.text_format.specs.Formats.{either}
+use Rattle.text_format.specs.Formats.{leaf, ◌⊗◌, either}
 use Rattle.text_format.specs.Laws.{IsExact, begins, avoids}
-use Rattle.text_format.specs.Exact.{leaf-exact, only-exact, record-exact, either-exact, ◌⊠◌, ◌▹◌}
+use Rattle.text_format.specs.Exact.{leaf-exact, only-exact, before-exact, record-exact, either-exact, ◌⊠◌, ◌▹◌}
 use Rattle.text_format.specs.Many.{many-exact, optional-exact, list-exact, avoids_append}
 use Rattle.text_format.specs.Ends.{IsWhole, record-whole, all-whole}
 use Rattle.mlir_syntax.specs.declared.tree.files.AliasLine.{AliasLine}
@@ -22,13 +22,20 @@ use Rattle.mlir_syntax.specs.declared.tree.files.ReturnedValues.{ReturnedValues}
 use Rattle.mlir_syntax.specs.declared.tree.files.Returned.{Returned}
 use Rattle.mlir_syntax.specs.declared.tree.files.Returned.TheVariants.{Nothing, Values}
 use Rattle.mlir_syntax.specs.declared.tree.files.Function.{Function}
+use Rattle.mlir_syntax.specs.declared.tree.files.ScriptModule.{ScriptModule}
+use Rattle.mlir_syntax.specs.declared.tree.files.FunctionsEnd.{FunctionsEnd}
+use Rattle.mlir_syntax.specs.declared.tree.files.ModuleRest.{ModuleRest}
+use Rattle.mlir_syntax.specs.declared.tree.files.ModuleRest.TheVariants as rests
 use Rattle.mlir_syntax.specs.declared.tree.files.Enclosed.{Enclosed}
 use Rattle.mlir_syntax.specs.declared.tree.files.Item.{Item}
 use Rattle.mlir_syntax.specs.declared.tree.files.Item.TheVariants as items
 use Rattle.mlir_syntax.specs.Operations.{statement}
-use Rattle.mlir_syntax.specs.Files.{alias_line, param, made_return, return_parts, return_name, next_result, several_results, made_results, results_parts, result_types, next_value, return_type, returned_values, made_returned, returned_parts, returned, function, enclosed, made_item, item_parts, item, text}
+use Rattle.mlir_syntax.specs.Files.{alias_line, param, made_return, return_parts, return_name, next_result, several_results, made_results, results_parts, result_types, next_value, return_type, returned_values, made_returned, returned_parts, returned, function, module_attributes, script_module, functions_end, made_rest, rest_parts, module_rest, enclosed, made_item, item_parts, item, text}
 use Rattle.mlir_syntax.specs.MapLaws.{written_map-exact}
 use Rattle.mlir_syntax.specs.OperationLaws.{statement-exact}
+use Rattle.script_syntax.specs.declared.tree.lines.Sequence.{Sequence}
+use Rattle.script_syntax.specs.Lines.{sequence}
+use Rattle.script_syntax.specs.LineLaws.{sequence-exact}
 
 pub alias_line-exact : IsExact alias_line
 unfolding alias_line
@@ -112,9 +119,48 @@ function-exact = record-exact _ _ _ (λ _. refl) (λ _. refl)
     (λ y. avoids_append (NewValueAt at.Statement) (return_name.spell y.0) (returned.spell y.1) (return_avoids y.0)))
     (λ _. refl) (λ _. refl))
 
+pub module_attributes-exact : IsExact module_attributes
+unfolding module_attributes
+module_attributes-exact = record-exact _ _ _ (λ _. refl) (λ _. refl) (before-exact CloseBrace (before-exact WithNamedSequence (before-exact OpenBrace (leaf-exact (Exactly Attributes)))))
+
+pub script_module-exact : IsExact script_module
+unfolding script_module
+script_module-exact = record-exact _ _ _ (λ _. refl) (λ _. refl) (leaf-exact (Exactly lexemes.Module) ⊠ Attributes ▹ OpenBrace ▹ WithNamedSequence ▹ CloseBrace ▹ OpenBrace ▹ before-exact CloseBrace sequence-exact)
+
+pub functions_end-exact : IsExact functions_end
+unfolding functions_end function
+functions_end-exact = record-exact _ _ _ (λ _. refl) (λ _. refl) (many-exact (Exactly FuncFunc) function-exact (leaf-exact (Name at.Item CloseBrace)) (λ _. refl) (λ _. refl))
+
+rest_back : (x : (Sequence × FunctionsEnd) ⊎ ((ScriptModule × FunctionsEnd) ⊎ TokenShape)) → rest_parts (made_rest x) ≡ x
+rest_back (inl x) = refl
+rest_back (inr (inl x)) = refl
+rest_back (inr (inr t)) = refl
+
+rest_forth : (r : ModuleRest) → made_rest (rest_parts r) ≡ r
+rest_forth (rests.Script q e) = refl
+rest_forth (rests.Nested m e) = refl
+rest_forth (rests.End t) = refl
+
+no_script : (x : (ScriptModule × FunctionsEnd) ⊎ TokenShape) → avoids (Exactly NamedSequence) ((either (Exactly lexemes.Module) (script_module ⊗ functions_end) (leaf (Name at.Item CloseBrace))).spell x) ≡ true
+unfolding script_module
+no_script (inl x) = refl
+no_script (inr t) = refl
+
+pub module_rest-exact : IsExact module_rest
+unfolding module_rest script_module sequence
+module_rest-exact = record-exact _ _ _ rest_back rest_forth
+    (either-exact (Exactly NamedSequence) (sequence-exact ⊠ functions_end-exact) (either-exact (Exactly lexemes.Module) (script_module-exact ⊠ functions_end-exact) (leaf-exact (Name at.Item CloseBrace)) (λ _. refl) (λ _. refl)) (λ _. refl) no_script)
+
+rest_avoids : (r : ModuleRest) → avoids (Exactly FuncFunc) (module_rest.spell r) ≡ true
+unfolding module_rest script_module sequence
+rest_avoids (rests.Script q e) = refl
+rest_avoids (rests.Nested m e) = refl
+rest_avoids (rests.End t) = refl
+
 pub enclosed-exact : IsExact enclosed
-unfolding enclosed function
-enclosed-exact = record-exact _ _ _ (λ _. refl) (λ _. refl) (leaf-exact (Exactly lexemes.Module) ⊠ OpenBrace ▹ many-exact (Exactly FuncFunc) function-exact (leaf-exact (Name at.Item CloseBrace)) (λ _. refl) (λ _. refl))
+unfolding enclosed module_attributes function
+enclosed-exact = record-exact _ _ _ (λ _. refl) (λ _. refl)
+    (leaf-exact (Exactly lexemes.Module) ⊠ optional-exact (Exactly Attributes) module_attributes-exact (leaf-exact (Exactly OpenBrace) ⊠ many-exact (Exactly FuncFunc) function-exact module_rest-exact (λ _. refl) rest_avoids) (λ _. refl) (λ _. refl))
 
 item_back : (x : AliasLine ⊎ (Enclosed ⊎ Function)) → item_parts (made_item x) ≡ x
 item_back (inl a) = refl

@@ -4,10 +4,10 @@ use Rattle.std.proofs.Common.{inl, inr}
 use Rattle.text_format.specs.declared.class.Class.TheVariants.{Exactly, Name, Value, NewValue, NewValueAt, Symbol, TensorType, ItemStart}
 use Rattle.text_format.specs.declared.class.Class.TheVariants as classes
 use Rattle.text_format.specs.declared.class.Position.TheVariants as at
-use Rattle.text_format.specs.declared.lexeme.Lexeme.TheVariants.{OpenParenthesis, CloseParenthesis, OpenBrace, CloseBrace, Comma, Colon, Equals, Arrow, FuncFunc, Return, FuncReturn}
+use Rattle.text_format.specs.declared.lexeme.Lexeme.TheVariants.{OpenParenthesis, CloseParenthesis, OpenBrace, CloseBrace, Comma, Colon, Equals, Arrow, FuncFunc, Return, FuncReturn, Attributes, WithNamedSequence, NamedSequence}
 use Rattle.text_format.specs.declared.lexeme.Lexeme.TheVariants as lexemes
 use Rattle.text_format.specs.Token.{TokenShape}
-use Rattle.text_format.specs.Formats.{Format, leaf, only, ◌▸◌, ◌⊗◌, as_record, either, optional, many, list_before}
+use Rattle.text_format.specs.Formats.{Format, leaf, only, before, ◌▸◌, ◌⊗◌, as_record, either, optional, many, list_before}
 use Rattle.text_format.specs.Ends.{all}
 use Rattle.mlir_syntax.specs.declared.tree.files.AliasLine.{AliasLine}
 use Rattle.mlir_syntax.specs.declared.tree.files.Param.{Param}
@@ -23,12 +23,19 @@ use Rattle.mlir_syntax.specs.declared.tree.files.ReturnedValues.{ReturnedValues}
 use Rattle.mlir_syntax.specs.declared.tree.files.Returned.{Returned}
 use Rattle.mlir_syntax.specs.declared.tree.files.Returned.TheVariants.{Nothing, Values}
 use Rattle.mlir_syntax.specs.declared.tree.files.Function.{Function}
+use Rattle.mlir_syntax.specs.declared.tree.files.ModuleAttributes.{ModuleAttributes}
+use Rattle.mlir_syntax.specs.declared.tree.files.ScriptModule.{ScriptModule}
+use Rattle.mlir_syntax.specs.declared.tree.files.FunctionsEnd.{FunctionsEnd}
+use Rattle.mlir_syntax.specs.declared.tree.files.ModuleRest.{ModuleRest}
+use Rattle.mlir_syntax.specs.declared.tree.files.ModuleRest.TheVariants as rests
 use Rattle.mlir_syntax.specs.declared.tree.files.Enclosed.{Enclosed}
 use Rattle.mlir_syntax.specs.declared.tree.files.Item.{Item}
 use Rattle.mlir_syntax.specs.declared.tree.files.Item.TheVariants as items
 use Rattle.mlir_syntax.specs.declared.tree.files.Text.{Text}
 use Rattle.mlir_syntax.specs.Maps.{written_map}
 use Rattle.mlir_syntax.specs.Operations.{statement}
+use Rattle.script_syntax.specs.declared.tree.lines.Sequence.{Sequence}
+use Rattle.script_syntax.specs.Lines.{sequence}
 
 -- #id = affine_map<tokens>
 unfoldable pub alias_line : Format AliasLine
@@ -106,10 +113,37 @@ function = as_record (λ x. record { keyword = x.0; name = x.1.0; params = x.1.1
     ⊗ optional (Exactly Arrow) result_types
     (OpenBrace ▸ many (NewValueAt at.Statement) statement (return_name ⊗ returned)))
 
--- module { functions }
+-- attributes {transform.with_named_sequence}
+unfoldable pub module_attributes : Format ModuleAttributes
+module_attributes = as_record (λ t. record { keyword = t }) (λ a. a.keyword) (before CloseBrace (before WithNamedSequence (before OpenBrace (leaf (Exactly Attributes)))))
+
+-- module attributes {transform.with_named_sequence} { script }
+unfoldable pub script_module : Format ScriptModule
+script_module = as_record (λ x. record { keyword = x.0; script = x.1 }) (λ m. (m.keyword, m.script))
+    (leaf (Exactly lexemes.Module) ⊗ Attributes ▸ OpenBrace ▸ WithNamedSequence ▸ CloseBrace ▸ OpenBrace ▸ before CloseBrace sequence)
+
+-- functions }
+unfoldable pub functions_end : Format FunctionsEnd
+functions_end = as_record (λ x. record { functions = x.0; close = x.1 }) (λ e. (e.functions, e.close)) (many (Exactly FuncFunc) function (leaf (Name at.Item CloseBrace)))
+
+abbrev pub made_rest : (Sequence × FunctionsEnd) ⊎ ((ScriptModule × FunctionsEnd) ⊎ TokenShape) → ModuleRest
+made_rest (inl x) = rests.Script x.0 x.1
+made_rest (inr (inl x)) = rests.Nested x.0 x.1
+made_rest (inr (inr t)) = rests.End t
+
+abbrev pub rest_parts : ModuleRest → (Sequence × FunctionsEnd) ⊎ ((ScriptModule × FunctionsEnd) ⊎ TokenShape)
+rest_parts (rests.Script q e) = inl (q, e)
+rest_parts (rests.Nested m e) = inr (inl (m, e))
+rest_parts (rests.End t) = inr (inr t)
+
+-- the brace that closes a module, or a script and more functions
+unfoldable pub module_rest : Format ModuleRest
+module_rest = as_record made_rest rest_parts (either (Exactly NamedSequence) (sequence ⊗ functions_end) (either (Exactly lexemes.Module) (script_module ⊗ functions_end) (leaf (Name at.Item CloseBrace))))
+
+-- module { functions }, or with a script; which modules may hold one is told where the tree is resolved
 unfoldable pub enclosed : Format Enclosed
-enclosed = as_record (λ x. record { keyword = x.0; functions = x.1.0; close = x.1.1 }) (λ e. (e.keyword, (e.functions, e.close)))
-    (leaf (Exactly lexemes.Module) ⊗ OpenBrace ▸ many (Exactly FuncFunc) function (leaf (Name at.Item CloseBrace)))
+enclosed = as_record (λ x. record { keyword = x.0; attributes = x.1.0; brace = x.1.1.0; functions = x.1.1.1.0; rest = x.1.1.1.1 }) (λ e. (e.keyword, (e.attributes, (e.brace, (e.functions, e.rest)))))
+    (leaf (Exactly lexemes.Module) ⊗ optional (Exactly Attributes) module_attributes (leaf (Exactly OpenBrace) ⊗ many (Exactly FuncFunc) function module_rest))
 
 abbrev pub made_item : AliasLine ⊎ (Enclosed ⊎ Function) → Item
 made_item (inl a) = items.Alias a
@@ -125,6 +159,6 @@ item_parts (items.Function f) = inr (inr f)
 unfoldable pub item : Format Item
 item = as_record made_item item_parts (either classes.Alias alias_line (either (Exactly lexemes.Module) enclosed function))
 
--- a whole text: items in any order. That functions don't stand beside a module is told where the tree is resolved
+-- a whole text: items in any order. What may not stand beside a module is told where the tree is resolved
 unfoldable pub text : Format Text
 text = as_record (λ is. record { items = is }) (λ t. t.items) (all ItemStart item)

@@ -1,7 +1,7 @@
 //! The syntax of a text: its tree, whose leaves are the tokens that were read.
 //!
-//! A [`Text`] is a list of [`Item`]s: aliases and [`Function`]s, or aliases around one module of functions. A function
-//! is its signature, its [`Statement`]s and its return.
+//! A [`Text`] is a list of [`Item`]s: aliases, [`Function`]s and modules, which hold functions and at most one script
+//! (`script_syntax`). A function is its signature, its [`Statement`]s and its return.
 #![tactic(auto)]
 
 mod read;
@@ -11,11 +11,12 @@ mod whole;
 pub use tree::{
     AliasLine, BatchMatmul, BinaryStep, BlockArg, BlockArgs, Broadcast, CastStep, CompareStep,
     Constant, ConstantStep, Conversion, DenseLiteral, DensePiece, Empty, Enclosed, Factors, Fill,
-    Function, Generic, IndexCastStep, IndexStep, InputTypes, Inputs, Item, IteratorType, Literal,
-    MapPiece, MapUse, Matmul, NextArg, NextInput, NextResult, NextType, NextValue, Operands,
-    Operation, Output, Param, Region, ResultTypes, ReturnName, ReturnType, Returned,
-    ReturnedValues, ScalarLiteral, SelectStep, SeveralResults, Sign, SignedNumber, SourceAndOutput,
-    Statement, Step, StepOperation, Text, Transpose, TypedNumber, WrittenMap,
+    Function, FunctionsEnd, Generic, IndexCastStep, IndexStep, InputTypes, Inputs, Item,
+    IteratorType, Literal, MapPiece, MapUse, Matmul, ModuleAttributes, ModuleRest, NextArg,
+    NextInput, NextResult, NextType, NextValue, Operands, Operation, Output, Param, Region,
+    ResultTypes, ReturnName, ReturnType, Returned, ReturnedValues, ScalarLiteral, ScriptModule,
+    SelectStep, SeveralResults, Sign, SignedNumber, SourceAndOutput, Statement, Step,
+    StepOperation, Text, Transpose, TypedNumber, WrittenMap,
 };
 pub use whole::read_tree;
 

@@ -15,8 +15,9 @@ pub mod structured;
 
 pub use constants::{Constant, DenseLiteral, DensePiece, Literal};
 pub use files::{
-    AliasLine, Enclosed, Function, Item, NextResult, NextValue, Param, ResultTypes, ReturnName,
-    ReturnType, Returned, ReturnedValues, SeveralResults, Text,
+    AliasLine, Enclosed, Function, FunctionsEnd, Item, ModuleAttributes, ModuleRest, NextResult,
+    NextValue, Param, ResultTypes, ReturnName, ReturnType, Returned, ReturnedValues, ScriptModule,
+    SeveralResults, Text,
 };
 pub use generics::{
     Generic, InputTypes, Inputs, IteratorType, NextInput, NextType, Operands, Output,

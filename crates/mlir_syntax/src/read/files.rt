@@ -1,13 +1,15 @@
 //! How functions and whole texts are read.
 
-ghost use Rattle.mlir_syntax.specs.Files.{alias_line, param, return_name, next_result, several_results, result_types, next_value, return_type, returned_values, returned, function, enclosed, item};
-ghost use Rattle.mlir_syntax.specs.FileLaws.{alias_line-exact, param-exact, return_name-exact, next_result-exact, several_results-exact, result_types-exact, next_value-exact, return_type-exact, returned_values-exact, returned-exact, function-exact, enclosed-exact, item-exact};
+ghost use Rattle.mlir_syntax.specs.Files.{alias_line, param, return_name, next_result, several_results, result_types, next_value, return_type, returned_values, returned, function, module_attributes, script_module, functions_end, module_rest, enclosed, item};
+ghost use Rattle.mlir_syntax.specs.FileLaws.{alias_line-exact, param-exact, return_name-exact, next_result-exact, several_results-exact, result_types-exact, next_value-exact, return_type-exact, returned_values-exact, returned-exact, function-exact, module_attributes-exact, script_module-exact, functions_end-exact, module_rest-exact, enclosed-exact, item-exact};
 
 use crate::tree::{
-    AliasLine, Enclosed, Function, Item, NextResult, NextValue, Param, ResultTypes, ReturnName,
-    ReturnType, Returned, ReturnedValues, SeveralResults, Statement, WrittenMap,
+    AliasLine, Enclosed, Function, FunctionsEnd, Item, ModuleAttributes, ModuleRest, NextResult,
+    NextValue, Param, ResultTypes, ReturnName, ReturnType, Returned, ReturnedValues, ScriptModule,
+    SeveralResults, Statement, WrittenMap,
 };
 use payload_ops::Memory;
+use script_syntax::Sequence;
 use std::alloc::Global;
 use text_format::{Class, Lexeme, Node, Parser, Position, Tree, list, many, optional};
 
@@ -224,6 +226,83 @@ impl<'a> Node<'a> for Function<'a> {
     }
 }
 
+impl<'a> Tree for ModuleAttributes<'a> {
+    ghost format = { module_attributes };
+
+    ghost exact = { module_attributes-exact };
+}
+
+impl<'a> Node<'a> for ModuleAttributes<'a> {
+    #[tactic(auto, unfolding(crate::specs::Files::module_attributes))]
+    fn read(_alloc: Global, parser: &mut Parser<'a>) -> Result<ModuleAttributes<'a>, Memory> {
+        let keyword = parser.leaf(Class::Exactly(Lexeme::Attributes));
+        parser.fixed(Lexeme::OpenBrace);
+        parser.fixed(Lexeme::WithNamedSequence);
+        parser.fixed(Lexeme::CloseBrace);
+        Ok(ModuleAttributes { keyword })
+    }
+}
+
+impl<'a> Tree for ScriptModule<'a> {
+    ghost format = { script_module };
+
+    ghost exact = { script_module-exact };
+}
+
+impl<'a> Node<'a> for ScriptModule<'a> {
+    #[tactic(auto, unfolding(crate::specs::Files::script_module))]
+    fn read(alloc: Global, parser: &mut Parser<'a>) -> Result<ScriptModule<'a>, Memory> {
+        let keyword = parser.leaf(Class::Exactly(Lexeme::Module));
+        parser.fixed(Lexeme::Attributes);
+        parser.fixed(Lexeme::OpenBrace);
+        parser.fixed(Lexeme::WithNamedSequence);
+        parser.fixed(Lexeme::CloseBrace);
+        parser.fixed(Lexeme::OpenBrace);
+        let script = Sequence::read(alloc, parser)?;
+        parser.fixed(Lexeme::CloseBrace);
+        Ok(ScriptModule { keyword, script })
+    }
+}
+
+impl<'a> Tree for FunctionsEnd<'a> {
+    ghost format = { functions_end };
+
+    ghost exact = { functions_end-exact };
+}
+
+impl<'a> Node<'a> for FunctionsEnd<'a> {
+    #[tactic(auto, unfolding(crate::specs::Files::functions_end, crate::specs::Files::function))]
+    fn read(alloc: Global, parser: &mut Parser<'a>) -> Result<FunctionsEnd<'a>, Memory> {
+        let functions = many::<Function>(alloc, parser, Class::Exactly(Lexeme::FuncFunc))?;
+        let close = parser.leaf(Class::Name(Position::Item, Lexeme::CloseBrace));
+        Ok(FunctionsEnd { functions, close })
+    }
+}
+
+impl<'a> Tree for ModuleRest<'a> {
+    ghost format = { module_rest };
+
+    ghost exact = { module_rest-exact };
+}
+
+impl<'a> Node<'a> for ModuleRest<'a> {
+    #[tactic(auto, unfolding(crate::specs::Files::module_rest))]
+    fn read(alloc: Global, parser: &mut Parser<'a>) -> Result<ModuleRest<'a>, Memory> {
+        if parser.sees(Class::Exactly(Lexeme::NamedSequence)) {
+            let script = Sequence::read(alloc, parser)?;
+            let rest = FunctionsEnd::read(alloc, parser)?;
+            Ok(ModuleRest::Script(script, rest))
+        } else if parser.sees(Class::Exactly(Lexeme::Module)) {
+            let nested = ScriptModule::read(alloc, parser)?;
+            let rest = FunctionsEnd::read(alloc, parser)?;
+            Ok(ModuleRest::Nested(nested, rest))
+        } else {
+            let tree = parser.leaf(Class::Name(Position::Item, Lexeme::CloseBrace));
+            Ok(ModuleRest::End(tree))
+        }
+    }
+}
+
 impl<'a> Tree for Enclosed<'a> {
     ghost format = { enclosed };
 
@@ -231,16 +310,23 @@ impl<'a> Tree for Enclosed<'a> {
 }
 
 impl<'a> Node<'a> for Enclosed<'a> {
-    #[tactic(auto, unfolding(crate::specs::Files::enclosed, crate::specs::Files::function))]
+    #[tactic(auto, unfolding(crate::specs::Files::enclosed, crate::specs::Files::module_attributes, crate::specs::Files::function))]
     fn read(alloc: Global, parser: &mut Parser<'a>) -> Result<Enclosed<'a>, Memory> {
         let keyword = parser.leaf(Class::Exactly(Lexeme::Module));
-        parser.fixed(Lexeme::OpenBrace);
+        let attributes = optional::<ModuleAttributes>(
+            alloc,
+            parser,
+            Class::Exactly(Lexeme::Attributes),
+        )?;
+        let brace = parser.leaf(Class::Exactly(Lexeme::OpenBrace));
         let functions = many::<Function>(alloc, parser, Class::Exactly(Lexeme::FuncFunc))?;
-        let close = parser.leaf(Class::Name(Position::Item, Lexeme::CloseBrace));
+        let rest = ModuleRest::read(alloc, parser)?;
         Ok(Enclosed {
             keyword,
+            attributes,
+            brace,
             functions,
-            close,
+            rest,
         })
     }
 }

@@ -3,6 +3,7 @@
 use super::maps::WrittenMap;
 use super::operations::Statement;
 use payload_ops::List;
+use script_syntax::Sequence;
 use text_format::Token;
 
 /// `#name = affine_map<tokens>`
@@ -89,15 +90,46 @@ pub struct Function<'a> {
     pub returned: Returned<'a>,
 }
 
-/// `module { functions }`, with the closing brace.
+/// `attributes {transform.with_named_sequence}`, which a module has that may hold a script.
 #[derive(Drop)]
-pub struct Enclosed<'a> {
+pub struct ModuleAttributes<'a> {
     pub keyword: Token<'a>,
+}
+
+/// `module attributes {transform.with_named_sequence} { script }`, a script's own module inside of another one.
+#[derive(Drop)]
+pub struct ScriptModule<'a> {
+    pub keyword: Token<'a>,
+    pub script: Sequence<'a>,
+}
+
+/// Functions behind a module's script, and the brace that closes the module.
+#[derive(Drop)]
+pub struct FunctionsEnd<'a> {
     pub functions: List<Function<'a>>,
     pub close: Token<'a>,
 }
 
-/// An alias, a function, or a module with functions.
+/// What stands behind the first functions of a module: the brace that closes it, or a script or a script's own module, and more
+/// functions.
+#[derive(Drop)]
+pub enum ModuleRest<'a> {
+    End(Token<'a>),
+    Script(Sequence<'a>, FunctionsEnd<'a>),
+    Nested(ScriptModule<'a>, FunctionsEnd<'a>),
+}
+
+/// `module { functions }`, or a module with functions and a script.
+#[derive(Drop)]
+pub struct Enclosed<'a> {
+    pub keyword: Token<'a>,
+    pub attributes: Option<ModuleAttributes<'a>>,
+    pub brace: Token<'a>,
+    pub functions: List<Function<'a>>,
+    pub rest: ModuleRest<'a>,
+}
+
+/// An alias, a function, or a module with functions or a script.
 #[derive(Drop)]
 pub enum Item<'a> {
     Alias(AliasLine<'a>),

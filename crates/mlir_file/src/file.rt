@@ -1,0 +1,12 @@
+//! Files.
+
+use mlir_ir::Module;
+use script_read::Script;
+
+/// What a text holds: its functions, and its script where it has one (MLIR manual, "Transform Dialect": a script is
+/// a named sequence in a module of its own, which may stand in the file of its payload).
+#[derive(Drop)]
+pub struct File {
+    pub module: Module,
+    pub script: Option<Script>,
+}

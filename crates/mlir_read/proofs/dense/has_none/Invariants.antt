@@ -1,6 +1,0 @@
-use Rattle.std.proofs.Common.{◌≡◌, ◌==◌, drop}
-use Rattle.mlir_read.specs.Types.{elements}
-use Rattle.mlir_read.proofs.dense.has_none.Given as goal
-
-abbrev pub invariant-loop-extent : goal.invariant-loop-extent
-invariant-loop-extent l = (elements (drop l.extent-index l.extents) == 0) ≡ (elements l.extents == 0)

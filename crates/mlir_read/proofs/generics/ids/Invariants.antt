@@ -1,5 +1,0 @@
-use Rattle.std.proofs.Common.{◌≡◌, take, map}
-use Rattle.mlir_read.proofs.generics.ids.Given as goal
-
-abbrev pub invariant-loop-value : goal.invariant-loop-value
-invariant-loop-value l = l.found ≡ map (λ v. v.0) (take l.value-index l.values)

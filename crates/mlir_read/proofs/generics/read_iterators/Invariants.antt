@@ -1,7 +1,0 @@
-use Rattle.std.proofs.Common.{◌≡◌, drop}
-use Rattle.mlir_read.specs.Generics.{iterators_from}
-use Rattle.mlir_lex.proofs.Loops.{onto}
-use Rattle.mlir_read.proofs.generics.read_iterators.Given as goal
-
-abbrev pub invariant-loop-iterator : goal.invariant-loop-iterator
-invariant-loop-iterator l = record { found : onto l.found (iterators_from l.number (drop l.iterator-index l.iterators)) ≡ iterators_from 0 l.iterators; number : l.number ≡ l.iterator-index }

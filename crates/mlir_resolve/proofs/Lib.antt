@@ -1,0 +1,10 @@
+pub mod AliasSpots
+mod Elements
+pub mod Fitting
+pub mod Keeps
+pub mod MapSymbols
+pub mod Nested
+pub mod Ranges
+pub mod Results
+pub mod Spots
+pub mod StillNew

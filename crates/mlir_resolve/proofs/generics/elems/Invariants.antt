@@ -1,0 +1,5 @@
+use Rattle.std.proofs.Common.{◌≡◌, take, map}
+use Rattle.mlir_resolve.proofs.generics.elems.Given as goal
+
+abbrev pub invariant-loop-value : goal.invariant-loop-value
+invariant-loop-value l = l.found ≡ map (λ v. v.1) (take l.value-index l.values)
