@@ -1,5 +1,6 @@
 pub mod Bytes
 pub mod Nested
+pub mod LinearMaps
 mod OperationBytes
 mod PayloadBytes
 pub mod Signs

@@ -71,34 +71,34 @@ two ps qs a b e f = bytes_append ps qs ∙ ap (λ (t : List ℕ). t ++ bytes_of 
 abbrev behind_region : Ty → List Piece
 behind_region ty = Gap (codes "\n    ") ∷ Fixed CloseBrace ∷ Gap (codes " ") ∷ Fixed Arrow ∷ Gap (codes " ") ∷ Leaf TensorType Shaped (ty_text ty) ∷ []
 
-abbrev behind_operands : ℕ → ℕ → PayloadShape → Ty → List Piece
-behind_operands a r p ty = Gap (codes " ") ∷ Fixed OpenBrace ∷ Gap (codes "\n    ") ∷ ((region_at a r p).pieces ++ behind_region ty)
+abbrev behind_operands : List MapShape → ℕ → ℕ → PayloadShape → Ty → List Piece
+behind_operands al a r p ty = Gap (codes " ") ∷ Fixed OpenBrace ∷ Gap (codes "\n    ") ∷ ((region_at al a r p).pieces ++ behind_region ty)
 
-abbrev behind_iterators : List Row → List ValueId → ValueId → ℕ → ℕ → PayloadShape → Ty → List Piece
-behind_iterators rows ins out a r p ty = Fixed CloseBracket ∷ Fixed CloseBrace ∷ Gap (codes " ") ∷ ((operands_at rows ins out).pieces ++ behind_operands a r p ty)
+abbrev behind_iterators : List MapShape → List Row → List ValueId → ValueId → ℕ → ℕ → PayloadShape → Ty → List Piece
+behind_iterators al rows ins out a r p ty = Fixed CloseBracket ∷ Fixed CloseBrace ∷ Gap (codes " ") ∷ ((operands_at rows ins out).pieces ++ behind_operands al a r p ty)
 
-abbrev behind_maps : List Row → List Iter → List ValueId → ValueId → ℕ → ℕ → PayloadShape → Ty → List Piece
-behind_maps rows its ins out a r p ty = Fixed CloseBracket ∷ Fixed Comma ∷ Gap (codes " ") ∷ Fixed IteratorTypes ∷ Gap (codes " ") ∷ Fixed Equals ∷ Gap (codes " ") ∷ Fixed OpenBracket ∷ ((commas (map iterator_at its)).pieces ++ behind_iterators rows ins out a r p ty)
+abbrev behind_maps : List MapShape → List Row → List Iter → List ValueId → ValueId → ℕ → ℕ → PayloadShape → Ty → List Piece
+behind_maps al rows its ins out a r p ty = Fixed CloseBracket ∷ Fixed Comma ∷ Gap (codes " ") ∷ Fixed IteratorTypes ∷ Gap (codes " ") ∷ Fixed Equals ∷ Gap (codes " ") ∷ Fixed OpenBracket ∷ ((commas (map iterator_at its)).pieces ++ behind_iterators al rows ins out a r p ty)
 
-abbrev region_on : ℕ → ℕ → PayloadShape → Ty → List ℕ
-region_on a r p ty = codes " {\n    " ++ (region_text a r p ++ (codes "\n    } -> " ++ ty_text ty))
+abbrev region_on : List MapShape → ℕ → ℕ → PayloadShape → Ty → List ℕ
+region_on al a r p ty = codes " {\n    " ++ (region_text (map text_of_map al) a r p ++ (codes "\n    } -> " ++ ty_text ty))
 
-region_is : (a r : ℕ) (p : PayloadShape) (ty : Ty) → bytes_of (behind_operands a r p ty) ≡ region_on a r p ty
-region_is a r p ty = ap (λ (t : List ℕ). codes " {\n    " ++ t) (two (region_at a r p).pieces (behind_region ty) (region_text a r p) (codes "\n    } -> " ++ ty_text ty) (region_bytes a r p) (ap (λ (t : List ℕ). codes "\n    } -> " ++ t) (append-nil (ty_text ty))))
+region_is : (al : List MapShape) (a r : ℕ) (p : PayloadShape) (ty : Ty) → bytes_of (behind_operands al a r p ty) ≡ region_on al a r p ty
+region_is al a r p ty = ap (λ (t : List ℕ). codes " {\n    " ++ t) (two (region_at al a r p).pieces (behind_region ty) (region_text (map text_of_map al) a r p) (codes "\n    } -> " ++ ty_text ty) (region_bytes al a r p) (ap (λ (t : List ℕ). codes "\n    } -> " ++ t) (append-nil (ty_text ty))))
 
-operands_is : (rows : List Row) (ins : List ValueId) (out : ValueId) (a r : ℕ) (p : PayloadShape) (ty : Ty)
-    → bytes_of (behind_iterators rows ins out a r p ty) ≡ codes "]} " ++ (operands_text rows ins out ++ region_on a r p ty)
-operands_is rows ins out a r p ty = ap (λ (t : List ℕ). codes "]} " ++ t) (two (operands_at rows ins out).pieces (behind_operands a r p ty) (operands_text rows ins out) (region_on a r p ty) (operands_bytes rows ins out) (region_is a r p ty))
+operands_is : (al : List MapShape) (rows : List Row) (ins : List ValueId) (out : ValueId) (a r : ℕ) (p : PayloadShape) (ty : Ty)
+    → bytes_of (behind_iterators al rows ins out a r p ty) ≡ codes "]} " ++ (operands_text rows ins out ++ region_on al a r p ty)
+operands_is al rows ins out a r p ty = ap (λ (t : List ℕ). codes "]} " ++ t) (two (operands_at rows ins out).pieces (behind_operands al a r p ty) (operands_text rows ins out) (region_on al a r p ty) (operands_bytes rows ins out) (region_is al a r p ty))
 
-maps_is : (rows : List Row) (its : List Iter) (ins : List ValueId) (out : ValueId) (a r : ℕ) (p : PayloadShape) (ty : Ty)
-    → bytes_of (behind_maps rows its ins out a r p ty) ≡ codes "], iterator_types = [" ++ (iterators_text [] its ++ (codes "]} " ++ (operands_text rows ins out ++ region_on a r p ty)))
-maps_is rows its ins out a r p ty = ap (λ (t : List ℕ). codes "], iterator_types = [" ++ t) (two (commas (map iterator_at its)).pieces (behind_iterators rows ins out a r p ty) (iterators_text [] its) (codes "]} " ++ (operands_text rows ins out ++ region_on a r p ty)) (iterators_bytes its) (operands_is rows ins out a r p ty))
+maps_is : (al : List MapShape) (rows : List Row) (its : List Iter) (ins : List ValueId) (out : ValueId) (a r : ℕ) (p : PayloadShape) (ty : Ty)
+    → bytes_of (behind_maps al rows its ins out a r p ty) ≡ codes "], iterator_types = [" ++ (iterators_text [] its ++ (codes "]} " ++ (operands_text rows ins out ++ region_on al a r p ty)))
+maps_is al rows its ins out a r p ty = ap (λ (t : List ℕ). codes "], iterator_types = [" ++ t) (two (commas (map iterator_at its)).pieces (behind_iterators al rows ins out a r p ty) (iterators_text [] its) (codes "]} " ++ (operands_text rows ins out ++ region_on al a r p ty)) (iterators_bytes its) (operands_is al rows ins out a r p ty))
 
 generic_is : (al : List MapShape) (rows : List Row) (a r : ℕ) (ty : Ty) (ms : List MapShape) (its : List Iter) (ins : List ValueId) (out : ValueId) (p : PayloadShape)
-    → bytes_of (generic_at al rows a r ty ms its ins out p).pieces ≡ codes "linalg.generic {indexing_maps = [" ++ (uses_text (map text_of_map al) [] ms ++ (codes "], iterator_types = [" ++ (iterators_text [] its ++ (codes "]} " ++ (operands_text rows ins out ++ region_on a r p ty)))))
+    → bytes_of (generic_at al rows a r ty ms its ins out p).pieces ≡ codes "linalg.generic {indexing_maps = [" ++ (uses_text (map text_of_map al) [] ms ++ (codes "], iterator_types = [" ++ (iterators_text [] its ++ (codes "]} " ++ (operands_text rows ins out ++ region_on al a r p ty)))))
 generic_is al rows a r ty ms its ins out p =
     ap (λ (t : List ℕ). codes "linalg.generic {indexing_maps = [" ++ t)
-    (two (commas (map (use_at al) ms)).pieces (behind_maps rows its ins out a r p ty) (uses_text (map text_of_map al) [] ms) (codes "], iterator_types = [" ++ (iterators_text [] its ++ (codes "]} " ++ (operands_text rows ins out ++ region_on a r p ty)))) (uses_bytes al ms) (maps_is rows its ins out a r p ty))
+    (two (commas (map (use_at al) ms)).pieces (behind_maps al rows its ins out a r p ty) (uses_text (map text_of_map al) [] ms) (codes "], iterator_types = [" ++ (iterators_text [] its ++ (codes "]} " ++ (operands_text rows ins out ++ region_on al a r p ty)))) (uses_bytes al ms) (maps_is al rows its ins out a r p ty))
 
 grouped : (u i o g : List ℕ)
     → codes "linalg.generic {indexing_maps = [" ++ (u ++ (codes "], iterator_types = [" ++ (i ++ (codes "]} " ++ (o ++ g)))))
@@ -109,7 +109,7 @@ generic_bytes : (al : List MapShape) (n : Names) (ty : Ty) (ms : List MapShape) 
     → bytes_of (generic_at al n.rows n.args (n.results + 1) ty ms its ins out p).pieces ≡ generic_text (map text_of_map al) n ty ms its ins out p
 unfolding generic_text head_text tail_text traits_text maps_text
 generic_bytes al n ty ms its ins out p =
-    generic_is al n.rows n.args (n.results + 1) ty ms its ins out p ∙ grouped (uses_text (map text_of_map al) [] ms) (iterators_text [] its) (operands_text n.rows ins out) (region_on n.args (n.results + 1) p ty)
+    generic_is al n.rows n.args (n.results + 1) ty ms its ins out p ∙ grouped (uses_text (map text_of_map al) [] ms) (iterators_text [] its) (operands_text n.rows ins out) (region_on al n.args (n.results + 1) p ty)
 
 -- ---- structured operations
 

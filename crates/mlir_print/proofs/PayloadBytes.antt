@@ -1,8 +1,9 @@
 -- The pieces of maps, literals and payloads have the bytes that are written.
-use Rattle.std.proofs.Common.{◌≡◌, ℕ, ◌+◌, suc, ℤ, pos, negsuc, decimal, Bool, true, false, List, [], ◌∷◌, ◌++◌, map, drop, length, refl, sym, ap, ◌∙◌, append_assoc, codes}
+use Rattle.std.proofs.Common.{◌≡◌, ℕ, ◌+◌, suc, ℤ, pos, negsuc, decimal, Bool, true, false, List, [], ◌∷◌, ◌++◌, map, drop, length, Option, Some, None, refl, sym, ap, ◌∙◌, append_assoc, codes}
 use Rattle.std.proofs.lemmas.List.{append-nil}
 use Rattle.payload_ops.specs.declared.kinds.ElemTy.{ElemTy}
 use Rattle.payload_ops.specs.declared.kinds.ElemTy.TheVariants.{Int}
+use Rattle.payload_ops.specs.declared.step.Arg.{Arg}
 use Rattle.payload_ops.specs.declared.step.Arg.TheVariants.{Step}
 use Rattle.payload_ops.specs.declared.step.StepOp.{StepOp}
 use Rattle.payload_ops.specs.declared.step.StepOp.TheVariants as ops
@@ -22,7 +23,7 @@ use Rattle.mlir_ir.specs.declared.tree.Module.{Module}
 use Rattle.mlir_ir.specs.Shape.{FuncShape}
 use Rattle.text_format.specs.declared.class.Class.TheVariants.{TensorType, MapToken}
 use Rattle.text_format.specs.declared.front.Kind.TheVariants.{Shaped}
-use Rattle.text_format.specs.declared.lexeme.Lexeme.TheVariants.{OpenBrace, CloseBrace, OpenBracket, CloseBracket, Comma, Equals, Arrow, IteratorTypes, Parallel, Greater}
+use Rattle.text_format.specs.declared.lexeme.Lexeme.TheVariants.{OpenBrace, CloseBrace, OpenBracket, CloseBracket, Comma, Equals, Arrow, IteratorTypes, Parallel, Greater, CloseParenthesis}
 use Rattle.text_format.specs.Lexemes.{lexeme_text}
 use Rattle.text_format.specs.Pieces.{Piece, Gap, Fixed, Leaf, bytes_of}
 use Rattle.mlir_syntax.specs.declared.tree.files.Item.{Item}
@@ -30,15 +31,15 @@ use Rattle.mlir_syntax.specs.declared.tree.files.Item.TheVariants as items
 use Rattle.mlir_print.specs.declared.names.Given.TheVariants.{Argument, Result}
 use Rattle.mlir_print.specs.Types.{elem_text, ty_text}
 use Rattle.mlir_print.specs.Names.{Names, Row, given_text, local_name, name_in, type_in, with_argument}
-use Rattle.mlir_print.specs.Maps.{map_token, inner_pieces, written_at, alias_text, use_at, alias_line_at}
+use Rattle.mlir_print.specs.Maps.{map_token, inner_pieces, written_at, alias_text, alias_of, step_map, use_at, alias_line_at}
 use Rattle.affine_text.specs.Canonical.{map_front}
 use Rattle.affine_text.proofs.CanonicalBytes.{map_bytes}
 use Rattle.mlir_print.specs.Literals.{number_at, truth_text, literal_if, literal_at, literal_text_if, literal_text}
-use Rattle.mlir_print.specs.Payloads.{next_args_at, block_args_at, type_in as arg_type_in, operation_at as step_operation_at, step_at, steps_at, region_at}
+use Rattle.mlir_print.specs.Payloads.{next_args_at, block_args_at, type_in as arg_type_in, apply_operand_at, apply_at, linear_if, operation_at as step_operation_at, step_at, steps_at, region_at}
 use Rattle.std.specs.Fmt.{signed_decimal}
 use Rattle.text_format.specs.Writers.{Writer, each_of, commas, after_comma, made}
 use Rattle.mlir_print.specs.MapParts.{use_text, uses_text, alias_line_text, alias_lines_text, after_funcs_texts}
-use Rattle.mlir_print.specs.PayloadParts.{block_args_text, local_text, conversion_text, operation_text as step_operation_text, step_text, steps_text, block_text, region_text}
+use Rattle.mlir_print.specs.PayloadParts.{block_args_text, local_text, conversion_text, arguments_text, apply_text, linear_text_if, operation_text as step_operation_text, step_text, steps_text, block_text, region_text}
 use Rattle.mlir_print.proofs.Texts.{alias_is, funcs_texts}
 
 pub bytes_append : (ps qs : List Piece) → bytes_of (ps ++ qs) ≡ bytes_of ps ++ bytes_of qs
@@ -95,30 +96,49 @@ literal_bytes_if false e v = bytes_append (number_at (signed_of (bits_of e) v)).
 pub literal_bytes : (e : ElemTy) (v : ℕ) → bytes_of (literal_at e v).pieces ≡ literal_text e v
 literal_bytes e v = literal_bytes_if (is_elem e (Int 1)) e v
 
-step_operation_bytes : (a r : ℕ) (p : PayloadShape) (e : ElemTy) (o : StepOp) → bytes_of (step_operation_at (local_name a (length p.ins) r) (arg_type_in p) e o).pieces ≡ step_operation_text a r p e o
+more_arguments : (a r : ℕ) (p : PayloadShape) (terms : List (Arg × ℤ)) → bytes_of (each_of (map after_comma (map (apply_operand_at (local_name a (length p.ins) r)) terms))).pieces ≡ arguments_text a r p (codes ", ") terms
+more_arguments a r p [] = refl
+more_arguments a r p (t ∷ terms) = ap (λ (bs : List ℕ). codes ", " ++ (local_text a r p t.0 ++ bs)) (more_arguments a r p terms)
+
+arguments_bytes : (a r : ℕ) (p : PayloadShape) (terms : List (Arg × ℤ)) → bytes_of (commas (map (apply_operand_at (local_name a (length p.ins) r)) terms)).pieces ≡ arguments_text a r p [] terms
+arguments_bytes a r p [] = refl
+arguments_bytes a r p (t ∷ terms) = ap (λ (bs : List ℕ). local_text a r p t.0 ++ bs) (more_arguments a r p terms)
+
+apply_bytes : (al : List MapShape) (a r : ℕ) (p : PayloadShape) (m : MapShape) (terms : List (Arg × ℤ)) → bytes_of (apply_at al (local_name a (length p.ins) r) m terms).pieces ≡ apply_text (map text_of_map al) a r p m terms
+unfolding apply_text
+apply_bytes al a r p m terms =
+    ap (λ (t : List ℕ). codes "affine.apply " ++ (alias_of al m ++ (codes "(" ++ t)))
+    (bytes_append (commas (map (apply_operand_at (local_name a (length p.ins) r)) terms)).pieces (Fixed CloseParenthesis ∷ []) ∙ ap (λ (t : List ℕ). t ++ codes ")") (arguments_bytes a r p terms))
+    ∙ ap (λ (t : List ℕ). codes "affine.apply " ++ (t ++ (codes "(" ++ (arguments_text a r p [] terms ++ codes ")")))) (alias_is al m)
+
+linear_bytes : (al : List MapShape) (a r : ℕ) (p : PayloadShape) (o : Option MapShape) (terms : List (Arg × ℤ)) → bytes_of (linear_if al (local_name a (length p.ins) r) o terms).pieces ≡ linear_text_if (map text_of_map al) a r p o terms
+linear_bytes al a r p None terms = refl
+linear_bytes al a r p (Some m) terms = apply_bytes al a r p m terms
+
+step_operation_bytes : (al : List MapShape) (a r : ℕ) (p : PayloadShape) (e : ElemTy) (o : StepOp) → bytes_of (step_operation_at al (local_name a (length p.ins) r) (arg_type_in p) e o).pieces ≡ step_operation_text (map text_of_map al) a r p e o
 unfolding conversion_text
-step_operation_bytes a r p e (ops.Const v) = ap (λ (t : List ℕ). codes "arith.constant " ++ t) (literal_bytes e v)
-step_operation_bytes a r p e (ops.Index k) = refl
-step_operation_bytes a r p e (ops.Captured k) = refl
-step_operation_bytes a r p e (ops.Linear c ts) = refl
-step_operation_bytes a r p e (ops.Binary op x y) = simp (append_assoc, append-nil)
-step_operation_bytes a r p e (ops.Compare k x y) = simp (append_assoc, append-nil)
-step_operation_bytes a r p e (ops.Select c x y) = simp (append_assoc, append-nil)
-step_operation_bytes a r p e (ops.SignExtend x) = simp (append_assoc, append-nil)
-step_operation_bytes a r p e (ops.ZeroExtend x) = simp (append_assoc, append-nil)
-step_operation_bytes a r p e (ops.Truncate x) = simp (append_assoc, append-nil)
-step_operation_bytes a r p e (ops.IndexCast x) = simp (append_assoc, append-nil)
+step_operation_bytes al a r p e (ops.Const v) = ap (λ (t : List ℕ). codes "arith.constant " ++ t) (literal_bytes e v)
+step_operation_bytes al a r p e (ops.Index k) = refl
+step_operation_bytes al a r p e (ops.Captured k) = refl
+step_operation_bytes al a r p e (ops.Linear c ts) = linear_bytes al a r p (step_map (ops.Linear c ts)) ts
+step_operation_bytes al a r p e (ops.Binary op x y) = simp (append_assoc, append-nil)
+step_operation_bytes al a r p e (ops.Compare k x y) = simp (append_assoc, append-nil)
+step_operation_bytes al a r p e (ops.Select c x y) = simp (append_assoc, append-nil)
+step_operation_bytes al a r p e (ops.SignExtend x) = simp (append_assoc, append-nil)
+step_operation_bytes al a r p e (ops.ZeroExtend x) = simp (append_assoc, append-nil)
+step_operation_bytes al a r p e (ops.Truncate x) = simp (append_assoc, append-nil)
+step_operation_bytes al a r p e (ops.IndexCast x) = simp (append_assoc, append-nil)
 
-step_bytes : (a r : ℕ) (p : PayloadShape) (k : ℕ) (e : ElemTy) (o : StepOp) → bytes_of (step_at (local_name a (length p.ins) r) (arg_type_in p) k e o).pieces ≡ step_text a r p k e o
+step_bytes : (al : List MapShape) (a r : ℕ) (p : PayloadShape) (k : ℕ) (e : ElemTy) (o : StepOp) → bytes_of (step_at al (local_name a (length p.ins) r) (arg_type_in p) k e o).pieces ≡ step_text (map text_of_map al) a r p k e o
 unfolding step_text
-step_bytes a r p k e o = ap (λ (t : List ℕ). local_text a r p (Step k) ++ (codes " = " ++ t)) (step_operation_bytes a r p e o)
+step_bytes al a r p k e o = ap (λ (t : List ℕ). local_text a r p (Step k) ++ (codes " = " ++ t)) (step_operation_bytes al a r p e o)
 
-steps_bytes : (a r : ℕ) (p : PayloadShape) (k : ℕ) (ss : List PayloadStep) → bytes_of (each_of (steps_at (local_name a (length p.ins) r) (arg_type_in p) k ss)).pieces ≡ steps_text a r p k ss
-steps_bytes a r p k [] = refl
-steps_bytes a r p k (s ∷ ss) =
-    ap (λ (t : List ℕ). codes "\n      " ++ t) (bytes_append (step_at (local_name a (length p.ins) r) (arg_type_in p) k s.ty s.op).pieces (each_of (steps_at (local_name a (length p.ins) r) (arg_type_in p) (k + 1) ss)).pieces
-    ∙ ap (λ (t : List ℕ). t ++ bytes_of (each_of (steps_at (local_name a (length p.ins) r) (arg_type_in p) (k + 1) ss)).pieces) (step_bytes a r p k s.ty s.op) ∙ ap (λ (t : List ℕ). step_text a r p k s.ty s.op ++ t) (steps_bytes a r p (k + 1) ss))
+steps_bytes : (al : List MapShape) (a r : ℕ) (p : PayloadShape) (k : ℕ) (ss : List PayloadStep) → bytes_of (each_of (steps_at al (local_name a (length p.ins) r) (arg_type_in p) k ss)).pieces ≡ steps_text (map text_of_map al) a r p k ss
+steps_bytes al a r p k [] = refl
+steps_bytes al a r p k (s ∷ ss) =
+    ap (λ (t : List ℕ). codes "\n      " ++ t) (bytes_append (step_at al (local_name a (length p.ins) r) (arg_type_in p) k s.ty s.op).pieces (each_of (steps_at al (local_name a (length p.ins) r) (arg_type_in p) (k + 1) ss)).pieces
+    ∙ ap (λ (t : List ℕ). t ++ bytes_of (each_of (steps_at al (local_name a (length p.ins) r) (arg_type_in p) (k + 1) ss)).pieces) (step_bytes al a r p k s.ty s.op) ∙ ap (λ (t : List ℕ). step_text (map text_of_map al) a r p k s.ty s.op ++ t) (steps_bytes al a r p (k + 1) ss))
 
-pub region_bytes : (a r : ℕ) (p : PayloadShape) → bytes_of (region_at a r p).pieces ≡ region_text a r p
+pub region_bytes : (al : List MapShape) (a r : ℕ) (p : PayloadShape) → bytes_of (region_at al a r p).pieces ≡ region_text (map text_of_map al) a r p
 unfolding block_text
-region_bytes a r p = simp (bytes_append, block_args_bytes, steps_bytes, append_assoc, append-nil)
+region_bytes al a r p = simp (bytes_append, block_args_bytes, steps_bytes, append_assoc, append-nil)

@@ -36,8 +36,8 @@ traits_text ts maps its = maps_text ts maps ++ (codes ", iterator_types = [" ++ 
 unfoldable pub head_text : List (List ℕ) → List Row → List MapShape → List Iter → List ValueId → ValueId → List ℕ
 head_text ts rows maps its ins out = codes "linalg.generic " ++ (traits_text ts maps its ++ (codes " " ++ operands_text rows ins out))
 
-unfoldable pub tail_text : Names → Ty → PayloadShape → List ℕ
-tail_text n ty p = codes " {\n    " ++ (region_text n.args (n.results + 1) p ++ (codes "\n    } -> " ++ ty_text ty))
+unfoldable pub tail_text : List (List ℕ) → Names → Ty → PayloadShape → List ℕ
+tail_text ts n ty p = codes " {\n    " ++ (region_text ts n.args (n.results + 1) p ++ (codes "\n    } -> " ++ ty_text ty))
 
 unfoldable pub generic_text : List (List ℕ) → Names → Ty → List MapShape → List Iter → List ValueId → ValueId → PayloadShape → List ℕ
-generic_text ts n ty maps its ins out p = head_text ts n.rows maps its ins out ++ tail_text n ty p
+generic_text ts n ty maps its ins out p = head_text ts n.rows maps its ins out ++ tail_text ts n ty p

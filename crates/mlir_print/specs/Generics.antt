@@ -67,4 +67,4 @@ generic_at aliases rows a r ty maps its ins out p =
     made (λ x. record { name = x.0; maps = x.1.0; iterators = x.1.1.0; operands = x.1.1.1.0; region = x.1.1.1.1.0; result_type = x.1.1.1.1.1 }) ▷
     pair (keep (Name OperationName) LinalgGeneric) ▷ space ▷ lay OpenBrace ▷ lay IndexingMaps ▷ space ▷ lay Equals ▷ space ▷ lay OpenBracket ▷ pair (commas (map (use_at aliases) maps)) ▷
     lay CloseBracket ▷ lay Comma ▷ space ▷ lay IteratorTypes ▷ space ▷ lay Equals ▷ space ▷ lay OpenBracket ▷ pair (commas (map iterator_at its)) ▷ lay CloseBracket ▷ lay CloseBrace ▷ space ▷
-    pair (operands_at rows ins out) ▷ space ▷ lay OpenBrace ▷ gap (codes "\n    ") ▷ pair (region_at a r p) ▷ gap (codes "\n    ") ▷ lay CloseBrace ▷ space ▷ lay Arrow ▷ space ▷ type_at (ty_text ty)
+    pair (operands_at rows ins out) ▷ space ▷ lay OpenBrace ▷ gap (codes "\n    ") ▷ pair (region_at aliases a r p) ▷ gap (codes "\n    ") ▷ lay CloseBrace ▷ space ▷ lay Arrow ▷ space ▷ type_at (ty_text ty)

@@ -1,7 +1,12 @@
 -- Maps and their aliases: `#map`, `#map1`, `#map2`, in the order of first use.
-use Rattle.std.specs.Prelude.{ℕ, zero, suc, ◌+◌, List, [], ◌∷◌, ◌++◌, map, drop, if◌then◌else◌, codes, decimal, position, unwrap_or}
-use Rattle.std.specs.List.{list_any}
+use Rattle.std.specs.Prelude.{ℕ, zero, suc, ◌+◌, ◌^◌, ℤ, nat_lt, Bool, true, ◌&&◌, List, [], ◌∷◌, ◌++◌, map, drop, length, Option, Some, None, if◌then◌else◌, codes, decimal, position, unwrap_or}
+use Rattle.std.specs.List.{list_all, list_any}
 use Rattle.std.specs.Str.{bytes_eq}
+use Rattle.payload_ops.specs.Numbers.{is_in_range, is_coefficient}
+use Rattle.payload_ops.specs.declared.step.Arg.{Arg}
+use Rattle.payload_ops.specs.declared.step.StepOp.{StepOp}
+use Rattle.payload_ops.specs.declared.step.StepOp.TheVariants as ops
+use Rattle.payload_ops.specs.declared.step.PayloadStep.{PayloadStep}
 use Rattle.affine_maps.specs.Shape.{MapShape}
 use Rattle.affine_text.specs.Text.{text_of_map}
 use Rattle.affine_text.specs.Canonical.{map_front}
@@ -41,6 +46,35 @@ abbrev pub written_at : MapShape → Writer WrittenMap
 written_at m = made (λ x. record { keyword = x.0; less = x.1.0; tokens = x.1.1.0; greater = x.1.1.1 }) ▷
     pair (keep Exactly AffineMap) ▷ pair (keep Exactly Less) ▷ pair (tokens_at (inner_pieces m)) ▷ keep Exactly Greater
 
+-- ---- the map of a linear step (MLIR Affine dialect, "affine.apply"): one dimension for each term, in order, and one result
+
+-- from dimension d on
+abbrev pub linear_terms : ℕ → List (Arg × ℤ) → List (ℕ × ℤ)
+linear_terms d [] = []
+linear_terms d (t ∷ ts) = (d, t.1) ∷ linear_terms (suc d) ts
+
+abbrev pub linear_map : ℤ → List (Arg × ℤ) → MapShape
+linear_map c ts = record { dims = length ts; results = record { constant = c; terms = linear_terms 0 ts } ∷ [] }
+
+-- a linear step's numbers are those of a map
+abbrev pub has_map_numbers : StepOp → Bool
+has_map_numbers (ops.Linear c ts) = is_in_range c && list_all (λ t. is_coefficient t.1) ts
+has_map_numbers o = true
+
+-- the dimensions of a map are numbered by 32 bits: a step of more terms has none
+abbrev pub step_map : StepOp → Option MapShape
+step_map (ops.Linear c ts) = if nat_lt (length ts) (2 ^ 32) then Some (linear_map c ts) else None
+step_map o = None
+
+abbrev pub listed : Option MapShape → List MapShape
+listed None = []
+listed (Some m) = m ∷ []
+
+-- the maps of a payload's steps
+abbrev pub steps_maps : List PayloadStep → List MapShape
+steps_maps [] = []
+steps_maps (s ∷ ss) = listed (step_map s.op) ++ steps_maps ss
+
 -- ---- aliases
 
 -- the maps that have an alias; maps of one text share theirs
@@ -51,8 +85,9 @@ abbrev pub with_maps : List MapShape → List MapShape → List MapShape
 with_maps ms [] = ms
 with_maps ms (u ∷ us) = with_maps (with_map ms u) us
 
+-- a generic operation's own maps stand in its head, before its payload
 abbrev pub maps_used : OpKind → List MapShape
-maps_used (kinds.Generic maps its ins out captured p) = maps
+maps_used (kinds.Generic maps its ins out captured p) = maps ++ steps_maps p.steps
 maps_used k = []
 
 abbrev pub with_ops : List MapShape → List Op → List MapShape

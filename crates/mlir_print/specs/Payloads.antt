@@ -1,5 +1,5 @@
 -- Payloads as they are written (MLIR Linalg dialect, "linalg.generic").
-use Rattle.std.specs.Prelude.{ℕ, ◌+◌, List, [], ◌∷◌, ◌++◌, length, Option, Some, None, codes, decimal}
+use Rattle.std.specs.Prelude.{ℕ, ◌+◌, ℤ, List, [], ◌∷◌, ◌++◌, map, length, Option, Some, None, codes, decimal}
 use Rattle.payload_ops.specs.declared.kinds.ElemTy.{ElemTy}
 use Rattle.payload_ops.specs.declared.kinds.BinOp.{BinOp}
 use Rattle.payload_ops.specs.declared.kinds.Predicate.{Predicate}
@@ -10,10 +10,11 @@ use Rattle.payload_ops.specs.declared.step.StepOp.TheVariants as ops
 use Rattle.payload_ops.specs.declared.step.PayloadStep.{PayloadStep}
 use Rattle.payload_ops.specs.Shape.{PayloadShape}
 use Rattle.payload_ops.specs.Payload.{arg_type}
+use Rattle.affine_maps.specs.Shape.{MapShape}
 use Rattle.text_format.specs.declared.class.Class.TheVariants.{Exactly, Name, BinaryName, CastName, Value, NewValue, NewValueAt, ElementType, Number, Predicate as PredicateWord}
 use Rattle.text_format.specs.declared.class.Position.TheVariants.{PayloadStatement, PayloadStep as StepName}
 use Rattle.text_format.specs.declared.front.Kind.TheVariants as tokens
-use Rattle.text_format.specs.declared.lexeme.Lexeme.TheVariants.{OpenParenthesis, CloseParenthesis, Comma, Colon, Equals, Bb0, LinalgYield, ArithConstant, ArithCmpi, ArithSelect, ArithIndexCast, LinalgIndex, To, Index as IndexWord}
+use Rattle.text_format.specs.declared.lexeme.Lexeme.TheVariants.{OpenParenthesis, CloseParenthesis, Comma, Colon, Equals, Bb0, LinalgYield, ArithConstant, ArithCmpi, ArithSelect, ArithIndexCast, LinalgIndex, AffineApply, To, Index as IndexWord}
 use Rattle.text_format.specs.Pieces.{Gap, Fixed}
 use Rattle.text_format.specs.Token.{TokenShape}
 use Rattle.mlir_syntax.specs.declared.tree.payloads.BlockArg.{BlockArg}
@@ -29,6 +30,8 @@ use Rattle.mlir_syntax.specs.declared.tree.steps.Conversion.{Conversion}
 use Rattle.mlir_syntax.specs.declared.tree.steps.CastStep.{CastStep}
 use Rattle.mlir_syntax.specs.declared.tree.steps.IndexCastStep.{IndexCastStep}
 use Rattle.mlir_syntax.specs.declared.tree.steps.IndexStep.{IndexStep}
+use Rattle.mlir_syntax.specs.declared.tree.steps.ApplyOperand.{ApplyOperand}
+use Rattle.mlir_syntax.specs.declared.tree.steps.ApplyStep.{ApplyStep}
 use Rattle.mlir_syntax.specs.declared.tree.steps.StepOperation.{StepOperation}
 use Rattle.mlir_syntax.specs.declared.tree.steps.StepOperation.TheVariants as operations
 use Rattle.mlir_resolve.specs.declared.words.Cast.{Cast}
@@ -39,7 +42,8 @@ use Rattle.mlir_print.specs.declared.names.Given.TheVariants.{Argument}
 use Rattle.mlir_print.specs.Types.{elem_text}
 use Rattle.mlir_print.specs.Names.{given_text, local_name}
 use Rattle.mlir_print.specs.Literals.{literal_at}
-use Rattle.text_format.specs.Writers.{Writer, put, keep, lay, gap, space, lay_after, pair, made, each_of, unbuilt, unbuilt_text, no_token, ◌▷◌}
+use Rattle.mlir_print.specs.Maps.{step_map, use_at}
+use Rattle.text_format.specs.Writers.{Writer, put, keep, lay, gap, space, lay_after, pair, made, each_of, commas, unbuilt, unbuilt_text, no_token, ◌▷◌}
 
 abbrev pub new_line : List ℕ
 new_line = codes "\n      "
@@ -118,38 +122,51 @@ abbrev pub index_at : ℕ → Writer IndexStep
 index_at k = made (λ x. record { name = x.0; dimension = x.1 }) ▷
     pair (keep (Name StepName) LinalgIndex) ▷ space ▷ lay_after (lay_after (put Number tokens.Number (decimal k)) (Gap (codes " ") ∷ Fixed Colon ∷ [])) (Gap (codes " ") ∷ Fixed IndexWord ∷ [])
 
+-- `affine.apply #map(%x, %y)`: the map, and an argument for each of its dimensions
+abbrev pub apply_operand_at : (Arg → Given) → Arg × ℤ → Writer ApplyOperand
+apply_operand_at name t = made (λ t. record { name = t }) (value_at name t.0)
+
+abbrev pub apply_at : List MapShape → (Arg → Given) → MapShape → List (Arg × ℤ) → Writer ApplyStep
+apply_at aliases name m ts = made (λ x. record { name = x.0; map = x.1.0; operands = x.1.1; symbols = None }) ▷
+    pair (keep (Name StepName) AffineApply) ▷ space ▷ pair (use_at aliases m) ▷ lay OpenParenthesis ▷ lay_after (commas (map (apply_operand_at name) ts)) (Fixed CloseParenthesis ∷ [])
+
 abbrev pub no_operation : ℕ → StepOperation
 no_operation at = operations.Index (record { name = no_token at; dimension = no_token at })
 
-abbrev pub operation_at : (Arg → Given) → (Arg → List ℕ) → ElemTy → StepOp → Writer StepOperation
-operation_at name type e (ops.Const v) = made operations.Constant (constant_at e v)
-operation_at name type e (ops.Index k) = made operations.Index (index_at k)
-operation_at name type e (ops.Binary op x y) = made operations.Binary (binary_at name op x y e)
-operation_at name type e (ops.Compare p x y) = made operations.Compare (compare_at name type p x y)
-operation_at name type e (ops.Select c x y) = made operations.Select (select_at name c x y e)
-operation_at name type e (ops.SignExtend x) = made operations.Cast (cast_at name type changes.SignExtend x e)
-operation_at name type e (ops.ZeroExtend x) = made operations.Cast (cast_at name type changes.ZeroExtend x e)
-operation_at name type e (ops.Truncate x) = made operations.Cast (cast_at name type changes.Truncate x e)
-operation_at name type e (ops.IndexCast x) = made operations.IndexCast (index_cast_at name type x e)
-operation_at name type e o = unbuilt no_operation
+abbrev pub linear_if : List MapShape → (Arg → Given) → Option MapShape → List (Arg × ℤ) → Writer StepOperation
+linear_if aliases name None ts = unbuilt no_operation
+linear_if aliases name (Some m) ts = made operations.Apply (apply_at aliases name m ts)
+
+abbrev pub operation_at : List MapShape → (Arg → Given) → (Arg → List ℕ) → ElemTy → StepOp → Writer StepOperation
+operation_at aliases name type e (ops.Const v) = made operations.Constant (constant_at e v)
+operation_at aliases name type e (ops.Index k) = made operations.Index (index_at k)
+operation_at aliases name type e (ops.Binary op x y) = made operations.Binary (binary_at name op x y e)
+operation_at aliases name type e (ops.Compare p x y) = made operations.Compare (compare_at name type p x y)
+operation_at aliases name type e (ops.Select c x y) = made operations.Select (select_at name c x y e)
+operation_at aliases name type e (ops.SignExtend x) = made operations.Cast (cast_at name type changes.SignExtend x e)
+operation_at aliases name type e (ops.ZeroExtend x) = made operations.Cast (cast_at name type changes.ZeroExtend x e)
+operation_at aliases name type e (ops.Truncate x) = made operations.Cast (cast_at name type changes.Truncate x e)
+operation_at aliases name type e (ops.IndexCast x) = made operations.IndexCast (index_cast_at name type x e)
+operation_at aliases name type e (ops.Linear c ts) = linear_if aliases name (step_map (ops.Linear c ts)) ts
+operation_at aliases name type e o = unbuilt no_operation
 
 -- ---- steps, each on a line of its own
 
 -- `%s = operation`
-abbrev pub step_at : (Arg → Given) → (Arg → List ℕ) → ℕ → ElemTy → StepOp → Writer Step
-step_at name type k e o = made (λ x. record { result = x.0; operation = x.1 }) ▷
-    pair (put (NewValueAt PayloadStatement) tokens.Value (given_text (name (args.Step k)))) ▷ space ▷ lay Equals ▷ space ▷ operation_at name type e o
+abbrev pub step_at : List MapShape → (Arg → Given) → (Arg → List ℕ) → ℕ → ElemTy → StepOp → Writer Step
+step_at aliases name type k e o = made (λ x. record { result = x.0; operation = x.1 }) ▷
+    pair (put (NewValueAt PayloadStatement) tokens.Value (given_text (name (args.Step k)))) ▷ space ▷ lay Equals ▷ space ▷ operation_at aliases name type e o
 
-abbrev pub steps_at : (Arg → Given) → (Arg → List ℕ) → ℕ → List PayloadStep → List (Writer Step)
-steps_at name type k [] = []
-steps_at name type k (s ∷ ss) = gap new_line (step_at name type k s.ty s.op) ∷ steps_at name type (k + 1) ss
+abbrev pub steps_at : List MapShape → (Arg → Given) → (Arg → List ℕ) → ℕ → List PayloadStep → List (Writer Step)
+steps_at aliases name type k [] = []
+steps_at aliases name type k (s ∷ ss) = gap new_line (step_at aliases name type k s.ty s.op) ∷ steps_at aliases name type (k + 1) ss
 
 -- ---- the region, where the numbers of arguments and results begin at a and r
 
-abbrev pub region_with : (Arg → Given) → ℕ → PayloadShape → Writer Region
-region_with name a p = made (λ x. record { args = x.0; steps = x.1.0; yield_name = x.1.1.0; yielded = x.1.1.1.0; yield_type = x.1.1.1.1 }) ▷
-    lay Bb0 ▷ lay OpenParenthesis ▷ pair (block_args_at a p.ins p.out) ▷ lay Colon ▷ pair (each_of (steps_at name (type_in p) 0 p.steps)) ▷
+abbrev pub region_with : List MapShape → (Arg → Given) → ℕ → PayloadShape → Writer Region
+region_with aliases name a p = made (λ x. record { args = x.0; steps = x.1.0; yield_name = x.1.1.0; yielded = x.1.1.1.0; yield_type = x.1.1.1.1 }) ▷
+    lay Bb0 ▷ lay OpenParenthesis ▷ pair (block_args_at a p.ins p.out) ▷ lay Colon ▷ pair (each_of (steps_at aliases name (type_in p) 0 p.steps)) ▷
     gap new_line ▷ pair (keep (Name PayloadStatement) LinalgYield) ▷ space ▷ pair (put Value tokens.Value (given_text (name p.yielded))) ▷ space ▷ lay Colon ▷ space ▷ put ElementType tokens.Word (elem_text p.out)
 
-abbrev pub region_at : ℕ → ℕ → PayloadShape → Writer Region
-region_at a r p = region_with (local_name a (length p.ins) r) a p
+abbrev pub region_at : List MapShape → ℕ → ℕ → PayloadShape → Writer Region
+region_at aliases a r p = region_with aliases (local_name a (length p.ins) r) a p

@@ -41,6 +41,10 @@ impl Aliases {
         }
     }
 
+    pub fn alloc(&self) -> Global {
+        self.alloc
+    }
+
     pub fn add(&mut self, map: &AffineMap) -> Result<(), Memory>
         ensures { OnOk result (self.new ≡ with_text self.old (text_of_map map.now)) }
     {
@@ -96,6 +100,13 @@ fn write_alias_line(out: &mut Vec<u8>, number: u64, text: &[u8]) -> Result<(), M
     out.extend_from_slice(text)?;
     out.extend_from_slice(b"\n")?;
     Ok(())
+}
+
+pub fn write_use(out: &mut Vec<u8>, aliases: &Aliases, map: &AffineMap) -> Result<(), Memory>
+    ensures { OnOk result (out.new.items ≡ out.old.items ++ use_text aliases.now map.now) }
+{
+    let number = aliases.number(map)?;
+    write_alias(out, number as u64)
 }
 
 pub fn write_uses(out: &mut Vec<u8>, aliases: &Aliases, maps: &[AffineMap]) -> Result<(), Memory>

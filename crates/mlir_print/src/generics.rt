@@ -113,11 +113,23 @@ fn write_head(
     write_operands(out, names, parts.ins, parts.outs)
 }
 
-fn write_tail(out: &mut Vec<u8>, names: &Names, ty: &Ty, payload: &Payload) -> Result<(), Memory>
-    ensures { OnOk result (out.new.items ≡ out.old.items ++ tail_text names.now ty.now payload.now) }
+fn write_tail(
+    out: &mut Vec<u8>,
+    aliases: &Aliases,
+    names: &Names,
+    ty: &Ty,
+    payload: &Payload,
+) -> Result<(), Memory>
+    ensures { OnOk result (out.new.items ≡ out.old.items ++ tail_text aliases.now names.now ty.now payload.now) }
 {
     out.extend_from_slice(b" {\n    ")?;
-    write_region(out, names.next_argument(), names.next_result() + 1, payload)?;
+    write_region(
+        out,
+        aliases,
+        names.next_argument(),
+        names.next_result() + 1,
+        payload,
+    )?;
     out.extend_from_slice(b"\n    } -> ")?;
     write_type(out, ty)
 }
@@ -142,5 +154,5 @@ pub fn write_generic(
     ensures { OnOk result (out.new.items ≡ out.old.items ++ generic_text aliases.now names.now ty.now parts.entry.maps.now parts.entry.iterators.now parts.entry.ins.now parts.entry.outs parts.entry.payload.now) }
 {
     write_head(out, aliases, names, parts)?;
-    write_tail(out, names, ty, parts.payload)
+    write_tail(out, aliases, names, ty, parts.payload)
 }

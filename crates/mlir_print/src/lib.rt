@@ -13,6 +13,7 @@
 mod aliases;
 mod constants;
 mod generics;
+mod linear;
 mod literals;
 mod names;
 mod operations;

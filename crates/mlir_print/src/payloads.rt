@@ -1,23 +1,30 @@
 //! Payloads.
 
-ghost use Rattle.std.specs.Prelude.{◌≡◌, ◌≤◌, ◌^◌, ◌+◌, ◌++◌, ◌∷◌, [], length, codes, OnOk};
+ghost use Rattle.std.specs.Prelude.{◌≡◌, ◌≤◌, ◌^◌, ◌+◌, ◌++◌, ◌∷◌, [], length, codes, OnOk, IsTrue};
+ghost use Rattle.std.specs.List.{list_all};
 ghost use Rattle.payload_ops.specs.declared.step.Arg.TheVariants.{Step};
+ghost use Rattle.payload_ops.specs.declared.step.StepOp.TheVariants.{Linear};
 ghost use Rattle.payload_ops.specs.Payload.{arg_type};
 ghost use Rattle.mlir_print.specs.Names.{given_text, local_name};
+ghost use Rattle.mlir_print.specs.Maps.{has_map_numbers, step_map};
 ghost use Rattle.mlir_print.specs.Payloads.{type_in};
 ghost use Rattle.mlir_print.specs.Types.{elem_text};
 ghost use Rattle.mlir_print.specs.Literals.{literal_text};
-ghost use Rattle.mlir_print.specs.PayloadParts.{block_arg_text, block_args_text, local_text, operands_text, typed_text, binary_step_text, compare_step_text, select_step_text, conversion_text, cast_step_text, index_step_text, operation_text, step_text, steps_text, yield_text, block_text, region_text};
+ghost use Rattle.mlir_print.specs.PayloadParts.{block_arg_text, block_args_text, local_text, operands_text, typed_text, binary_step_text, compare_step_text, select_step_text, conversion_text, cast_step_text, index_step_text, arguments_text, apply_text, linear_text_if, operation_text, step_text, steps_text, yield_text, block_text, region_text};
 
+use crate::aliases::{Aliases, write_use};
+use crate::linear::linear_map;
 use crate::literals::write_literal;
 use crate::names::Given;
 use crate::types::{write_elem, write_name, write_number, write_unbuilt};
+use affine_maps::AffineMap;
 use mlir_resolve::{Cast, binary_text, cast_text, predicate_text};
 use payload_ops::{Arg, BinOp, ElemTy, Memory, Payload, PayloadStep, Predicate, StepOp};
 
-/// A payload, and where the numbers of its arguments and of its results begin.
+/// A payload, where the numbers of its arguments and of its results begin, and the aliases of maps.
 #[derive(Drop)]
 pub struct Inside<'a> {
+    aliases: &'a Aliases,
     args: u128,
     results: u128,
     payload: &'a Payload,
@@ -223,8 +230,57 @@ fn write_index_cast(
     write_conversion(out, inside, value, to)
 }
 
+/// The arguments of a linear step, between commas.
+fn write_arguments(
+    out: &mut Vec<u8>,
+    inside: &Inside<'_>,
+    terms: &[(Arg, i64)],
+) -> Result<(), Memory>
+    ensures { OnOk result (out.new.items ≡ out.old.items ++ arguments_text inside.now.args inside.now.results inside.now.payload.now [] terms.now) }
+{
+    let mut before: &[u8] = b"";
+    for term in terms {
+        out.extend_from_slice(before)?;
+        write_local(out, inside, term.0)?;
+        before = b", ";
+    }
+    Ok(())
+}
+
+fn write_apply(
+    out: &mut Vec<u8>,
+    inside: &Inside<'_>,
+    map: &AffineMap,
+    terms: &[(Arg, i64)],
+) -> Result<(), Memory>
+    ensures { OnOk result (out.new.items ≡ out.old.items ++ apply_text inside.now.aliases.now inside.now.args inside.now.results inside.now.payload.now map.now terms.now) }
+{
+    out.extend_from_slice(b"affine.apply ")?;
+    write_use(out, inside.aliases, map)?;
+    out.extend_from_slice(b"(")?;
+    write_arguments(out, inside, terms)?;
+    out.extend_from_slice(b")")?;
+    Ok(())
+}
+
+fn write_linear(
+    out: &mut Vec<u8>,
+    inside: &Inside<'_>,
+    constant: i64,
+    terms: &[(Arg, i64)],
+) -> Result<(), Memory>
+    requires { IsTrue (has_map_numbers (Linear constant terms.now)) }
+    ensures { OnOk result (out.new.items ≡ out.old.items ++ linear_text_if inside.now.aliases.now inside.now.args inside.now.results inside.now.payload.now (step_map (Linear constant terms.now)) terms.now) }
+{
+    match linear_map(inside.aliases.alloc(), constant, terms)? {
+        Some(map) => write_apply(out, inside, &map, terms),
+        None => write_unbuilt(out),
+    }
+}
+
 fn write_operation(out: &mut Vec<u8>, inside: &Inside<'_>, step: &PayloadStep) -> Result<(), Memory>
-    ensures { OnOk result (out.new.items ≡ out.old.items ++ operation_text inside.now.args inside.now.results inside.now.payload.now step.now.ty step.now.op) }
+    requires { IsTrue (has_map_numbers step.now.op) }
+    ensures { OnOk result (out.new.items ≡ out.old.items ++ operation_text inside.now.aliases.now inside.now.args inside.now.results inside.now.payload.now step.now.ty step.now.op) }
 {
     let elem = step.ty;
     match &step.op {
@@ -241,7 +297,10 @@ fn write_operation(out: &mut Vec<u8>, inside: &Inside<'_>, step: &PayloadStep) -
         StepOp::ZeroExtend(value) => write_cast(out, inside, Cast::ZeroExtend, *value, elem),
         StepOp::Truncate(value) => write_cast(out, inside, Cast::Truncate, *value, elem),
         StepOp::IndexCast(value) => write_index_cast(out, inside, *value, elem),
-        StepOp::Captured(_) | StepOp::Linear { .. } => write_unbuilt(out),
+        StepOp::Linear { constant, terms } => {
+            write_linear(out, inside, *constant, terms.as_slice())
+        }
+        StepOp::Captured(_) => write_unbuilt(out),
     }
 }
 
@@ -252,7 +311,8 @@ fn write_step(
     number: u64,
     step: &PayloadStep,
 ) -> Result<(), Memory>
-    ensures { OnOk result (out.new.items ≡ out.old.items ++ step_text inside.now.args inside.now.results inside.now.payload.now number step.now.ty step.now.op) }
+    requires { IsTrue (has_map_numbers step.now.op) }
+    ensures { OnOk result (out.new.items ≡ out.old.items ++ step_text inside.now.aliases.now inside.now.args inside.now.results inside.now.payload.now number step.now.ty step.now.op) }
 {
     write_name(out, Given::Result(inside.results + number as u128))?;
     out.extend_from_slice(b" = ")?;
@@ -260,7 +320,8 @@ fn write_step(
 }
 
 fn write_steps(out: &mut Vec<u8>, inside: &Inside<'_>, steps: &[PayloadStep]) -> Result<(), Memory>
-    ensures { OnOk result (out.new.items ≡ out.old.items ++ steps_text inside.now.args inside.now.results inside.now.payload.now 0 steps.now) }
+    requires { IsTrue (list_all (λ s. has_map_numbers s.op) steps.now) }
+    ensures { OnOk result (out.new.items ≡ out.old.items ++ steps_text inside.now.aliases.now inside.now.args inside.now.results inside.now.payload.now 0 steps.now) }
 {
     let mut number = 0u64;
     for step in steps {
@@ -287,7 +348,8 @@ fn write_block(
     output: &ElemTy,
     steps: &[PayloadStep],
 ) -> Result<(), Memory>
-    ensures { OnOk result (out.new.items ≡ out.old.items ++ block_text inside.now.args inside.now.results inside.now.payload.now inputs.now output.now steps.now) }
+    requires { IsTrue (list_all (λ s. has_map_numbers s.op) steps.now) }
+    ensures { OnOk result (out.new.items ≡ out.old.items ++ block_text inside.now.aliases.now inside.now.args inside.now.results inside.now.payload.now inputs.now output.now steps.now) }
 {
     out.extend_from_slice(b"^bb0(")?;
     write_block_args(out, inside.args, inputs, *output)?;
@@ -299,15 +361,17 @@ fn write_block(
 /// The region of a payload, where the numbers of arguments and of results begin at these.
 pub fn write_region(
     out: &mut Vec<u8>,
+    aliases: &Aliases,
     args: u128,
     results: u128,
     payload: &Payload,
 ) -> Result<(), Memory>
     requires args_fit { args ≤ 2 ^ 127 }
     requires results_fit { results ≤ 2 ^ 127 }
-    ensures { OnOk result (out.new.items ≡ out.old.items ++ region_text args results payload.now) }
+    ensures { OnOk result (out.new.items ≡ out.old.items ++ region_text aliases.now args results payload.now) }
 {
     let inside = Inside {
+        aliases,
         args,
         results,
         payload,

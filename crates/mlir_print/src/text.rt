@@ -6,7 +6,8 @@ ghost use Rattle.mlir_print.specs.Canonical.{after_params, text_of};
 ghost use Rattle.mlir_print.specs.MapParts.{after_ops_texts, after_funcs_texts, after_op_texts};
 ghost use Rattle.mlir_print.specs.Parts.{param_text, params_text, body_text, result_types_text, results_text, opening_text, signature_text, func_text, function_text, functions_text, rest_text, module_text, whole_text};
 
-use crate::aliases::{Aliases, add_maps};
+use crate::aliases::Aliases;
+use crate::linear::add_generic;
 use crate::names::{Given, Names};
 use crate::operations::{define, write_line};
 use crate::types::{write_name, write_type};
@@ -171,7 +172,7 @@ fn add_op(aliases: &mut Aliases, op: &Op) -> Result<(), Memory>
     ensures { OnOk result (aliases.new ≡ after_op_texts aliases.old op.now) }
 {
     match &op.kind {
-        OpKind::Generic { maps, .. } => add_maps(aliases, maps.as_slice()),
+        OpKind::Generic { maps, payload, .. } => add_generic(aliases, maps.as_slice(), payload),
         _ => Ok(()),
     }
 }

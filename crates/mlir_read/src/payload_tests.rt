@@ -75,6 +75,9 @@ fn reads_steps(rt: HostRuntime) -> Result<(), Fail> {
         "%i = arith.index_cast %y : i16 to index %s = arith.index_cast %i : index to i8 linalg.yield %s : i8",
         "%i = linalg.index 0 : index %s = arith.index_cast %i : index to i8 linalg.yield %s : i8",
         "%i = linalg.index 1048576 : index %j = arith.muli %i, %i : index linalg.yield %x : i8",
+        "%i = linalg.index 0 : index %j = affine.apply #m(%i) %s = arith.index_cast %j : index to i8 linalg.yield %s : i8",
+        "%i = linalg.index 0 : index %j = affine.apply affine_map<(d0)[s0] -> (d0 * 2 + s0 - 5)>(%i)[%i] linalg.yield %x : i8",
+        "%j = affine.apply affine_map<() -> (7)>()[] linalg.yield %x : i8",
     ] {
         assert_eq!(rt; refused(rt.alloc(), inside)?, None, "at {inside}");
     }
@@ -158,6 +161,8 @@ fn refuses_types(rt: HostRuntime) -> Result<(), Fail> {
             "%i = arith.constant 1 : index %s = arith.extsi %i : index to i64 linalg.yield %x : i8",
             52,
         ),
+        ("%s = affine.apply #m(%x) linalg.yield %x : i8", 21),
+        ("%s = affine.apply #m()[%y] linalg.yield %x : i8", 23),
         ("linalg.yield %y : i8", 18),
         ("linalg.yield %y : i16", 18),
         ("linalg.yield %x : i16", 18),
@@ -181,6 +186,9 @@ fn refuses_spellings(rt: HostRuntime) -> Result<(), Fail> {
         ("%s = arith.addi %x : i8 linalg.yield %x : i8", 19),
         ("%s = arith.constant 256 linalg.yield %s : i8", 24),
         ("%s = arith.extsi %x : i8 linalg.yield %x : i8", 25),
+        ("%s = affine.min #m(%x) linalg.yield %x : i8", 5),
+        ("%s = affine.apply #m %x linalg.yield %x : i8", 21),
+        ("%s = affine.apply #m() : index linalg.yield %x : i8", 23),
     ] {
         assert_eq!(rt;
             refused(rt.alloc(), inside)?,
@@ -194,7 +202,15 @@ fn refuses_spellings(rt: HostRuntime) -> Result<(), Fail> {
 #[test]
 fn refuses_what_the_profile_lacks(rt: HostRuntime) -> Result<(), Fail> {
     for (inside, at) in [
-        ("%s = affine.apply #m(%x) linalg.yield %x : i8", 5),
+        ("%s = affine.apply #m() linalg.yield %x : i8", 18),
+        (
+            "%i = linalg.index 0 : index %s = affine.apply #m(%i)[%i] linalg.yield %x : i8",
+            46,
+        ),
+        (
+            "%s = affine.apply affine_map<() -> (1, 2)>() linalg.yield %x : i8",
+            18,
+        ),
         ("%s = arith.addf %x, %z : i8 linalg.yield %x : i8", 5),
         ("%s = arith.subi %x, %a : i8 linalg.yield %x : i8", 20),
         ("%s = arith.constant 256 : f32 linalg.yield %x : i8", 26),
@@ -222,6 +238,10 @@ fn refuses_names(rt: HostRuntime) -> Result<(), Fail> {
         (
             "%s = arith.subi %q, %y : i8 linalg.yield %x : i8",
             ReadError::UnknownName(place(16)),
+        ),
+        (
+            "%s = affine.apply #q() linalg.yield %x : i8",
+            ReadError::UnknownName(place(18)),
         ),
         (
             "%x = arith.constant 1 : i8 linalg.yield %x : i8",

@@ -1,7 +1,7 @@
 -- The parts of a resolved region make a payload.
-use Rattle.std.proofs.Common.{◌≡◌, ◌<◌, ℕ, ◌+◌, zero, suc, Bool, true, false, List, [], ◌∷◌, ◌++◌, length, drop, Option, Some, None, Result, Ok, Err, refl, sym, ap, subst, ◌∙◌, append_assoc, cond, nat_lt, nat_le}
+use Rattle.std.proofs.Common.{◌≡◌, ◌<◌, ℕ, ℤ, ◌+◌, zero, suc, arith, map, get_or, Bool, true, false, List, [], ◌∷◌, ◌++◌, length, drop, Option, Some, None, Result, Ok, refl, sym, ap, subst, ◌∙◌, append_assoc, cond, nat_lt, nat_le}
 use Rattle.std.specs.Prelude.{slice_get}
-use Rattle.std.specs.List.{AllByRecursion}
+use Rattle.std.specs.List.{AllByRecursion, list_all}
 use Rattle.std.specs.Option.{option_map}
 use Rattle.std.specs.Str.{bytes_eq}
 use Rattle.std.proofs.lemmas.List.{append-nil}
@@ -12,7 +12,7 @@ use Rattle.payload_ops.specs.declared.step.Arg.{Arg}
 use Rattle.payload_ops.specs.declared.step.Arg.TheVariants as args
 use Rattle.payload_ops.specs.declared.step.StepOp.TheVariants as ops
 use Rattle.payload_ops.specs.declared.step.PayloadStep.{PayloadStep}
-use Rattle.payload_ops.specs.Payload.{is_elem, is_narrower, is_cast, has_type, have_one_type, is_widening, is_narrowing, is_value, arg_type, op_fits, steps_fit, IsPayload}
+use Rattle.payload_ops.specs.Payload.{is_elem, is_narrower, is_cast, has_type, have_one_type, is_widening, is_narrowing, arg_type, term_fits, op_fits, steps_fit, IsPayload}
 use Rattle.text_format.specs.Token.{TokenShape}
 use Rattle.text_format.specs.Types.{element_of}
 use Rattle.mlir_syntax.specs.declared.tree.payloads.NextArg.{NextArg}
@@ -20,6 +20,8 @@ use Rattle.mlir_syntax.specs.declared.tree.payloads.BlockArgs.{BlockArgs}
 use Rattle.mlir_syntax.specs.declared.tree.payloads.Step.{Step}
 use Rattle.mlir_syntax.specs.declared.tree.payloads.Region.{Region}
 use Rattle.mlir_syntax.specs.declared.tree.steps.Conversion.{Conversion}
+use Rattle.mlir_syntax.specs.declared.tree.steps.ApplyOperand.{ApplyOperand}
+use Rattle.mlir_syntax.specs.declared.tree.steps.ApplyStep.{ApplyStep}
 use Rattle.mlir_syntax.specs.declared.tree.steps.StepOperation.{StepOperation}
 use Rattle.mlir_syntax.specs.declared.tree.steps.StepOperation.TheVariants as operations
 use Rattle.mlir_ir.specs.declared.tree.Which.TheVariants as limits
@@ -30,15 +32,20 @@ use Rattle.mlir_resolve.specs.declared.words.Cast.TheVariants as changes
 use Rattle.mlir_resolve.specs.declared.names.Inside.{Inside}
 use Rattle.mlir_resolve.specs.declared.names.Meaning.{Meaning}
 use Rattle.mlir_resolve.specs.declared.names.Meaning.TheVariants.{Held, Constant, Local}
-use Rattle.mlir_lex.specs.Chain.{and_then, demand}
+use Rattle.mlir_lex.specs.Chain.{demand, thread}
+use Rattle.affine_maps.specs.declared.map.Expr.{Expr}
+use Rattle.affine_maps.specs.Map.{terms_fit, expr_fits}
+use Rattle.mlir_resolve.specs.Maps.{AliasShape, AreMaps, map_with_symbols, use_start}
 use Rattle.mlir_resolve.specs.Names.{Entry, entry, find}
 use Rattle.mlir_resolve.specs.Types.{same_elem}
-use Rattle.mlir_resolve.specs.Literals.{digits_value, elem_at, literal_of, is_literal}
+use Rattle.mlir_resolve.specs.Literals.{digits_value, elem_at, literal_of}
 use Rattle.mlir_resolve.specs.Words.{named_binary, named_predicate, named_cast}
 use Rattle.mlir_resolve.specs.Scope.{IsHeld, IsOuter}
-use Rattle.mlir_resolve.specs.Steps.{fresh_in, with_step, constant_step, brought, argument_by, argument, named, converted, is_integer, changes_width, cast_op, cast_of, index_cast_of, index_of, operation_of, name_in, room, step_of, steps_of}
-use Rattle.mlir_resolve.specs.Payload.{locals_of, arg_of, more_args, block_args, yield_of, parts_of}
+use Rattle.mlir_resolve.specs.Steps.{fresh_in, with_step, constant_step, brought, argument_by, argument, named, converted, is_integer, changes_width, cast_op, symbol_operands, fits_operands, only, one_result, fault_of_map, fault_at_stop, index_argument, apply_arguments, term_on, linear, operation_of, name_in, room, step_of, stop_behind, steps_of}
+use Rattle.mlir_resolve.specs.Payload.{locals_of, arg_of, more_args, block_args, stop_before_yield, parts_of}
 use Rattle.mlir_resolve.proofs.Keeps.{then_ok, ok_same, demand_ok, arg_keeps}
+use Rattle.mlir_resolve.proofs.Applied.{apply_counted, not_told, applied_fits, terms_are, first_term}
+use Rattle.mlir_resolve.proofs.MapsFit.{used_is_map}
 use Rattle.mlir_resolve.proofs.Ranges.{literal_is, literal_value}
 
 -- ---- element types
@@ -245,11 +252,87 @@ cast_fits ins out steps changes.Truncate a from to h g = narrowed (arg_type ins 
 index_cast_fits : (o : Option ElemTy) (from to : ElemTy) → o ≡ Some from → is_cast (Some from) to ≡ true → is_cast o to ≡ true
 index_cast_fits o from to h k = rw h k
 
-operation_fits : (ins : List ElemTy) (out : ElemTy) (outer : List Entry) (s : Inside) (o : StepOperation) (r : Inside × PayloadStep) → IsOuter outer → Inner ins out s → operation_of outer s o ≡ Ok r → Fitted ins out r
-operation_fits ins out outer s (operations.Constant c) r w h g =
+-- ---- affine.apply
+
+abbrev AreIndices : List ElemTy → ElemTy → List PayloadStep → List Arg → Type 0
+AreIndices ins out done arguments = AllByRecursion (λ a. arg_type ins out done a ≡ Some Index) arguments
+
+indices_more : (ins : List ElemTy) (out : ElemTy) (done more : List PayloadStep) (xs : List Arg) → AreIndices ins out done xs → AreIndices ins out (done ++ more) xs
+indices_more ins out done more [] h = tt
+indices_more ins out done more (x ∷ xs) h = (arg_more ins out done more x Index h.0, indices_more ins out done more xs h.1)
+
+indices_append : (ins : List ElemTy) (out : ElemTy) (done : List PayloadStep) (xs ys : List Arg) → AreIndices ins out done xs → AreIndices ins out done ys → AreIndices ins out done (xs ++ ys)
+indices_append ins out done [] ys h k = k
+indices_append ins out done (x ∷ xs) ys h k = (h.0, indices_append ins out done xs ys h.1 k)
+
+-- arguments have type index behind the steps that they bring
+record GotIndices (ins : List ElemTy) (out : ElemTy) (old : Inside) (r : Inside × List Arg) : Type 0 where
+  inner : Inner ins out r.0
+  more : List PayloadStep
+  grown : r.0.steps ≡ old.steps ++ more
+  typed : AreIndices ins out r.0.steps r.1
+
+-- some arguments, and behind them others
+both_got : (ins : List ElemTy) (out : ElemTy) (old : Inside) (x y : Inside × List Arg) → GotIndices ins out old x → GotIndices ins out x.0 y → GotIndices ins out old (y.0, x.1 ++ y.1)
+both_got ins out old x y h k = record {
+  inner = k.inner;
+  more = h.more ++ k.more;
+  grown = k.grown ∙ ap (λ (xs : List PayloadStep). xs ++ k.more) h.grown ∙ append_assoc old.steps h.more k.more;
+  typed = indices_append ins out y.0.steps x.1 y.1 (subst (λ (xs : List PayloadStep). AreIndices ins out xs x.1) (sym k.grown) (indices_more ins out x.0.steps k.more x.1 h.typed)) k.typed;
+}
+
+index_got : (ins : List ElemTy) (out : ElemTy) (outer : List Entry) (s : Inside) (o : ApplyOperand) (r : Inside × Arg) → IsOuter outer → Inner ins out s → index_argument outer s o ≡ Ok r → GotIndices ins out s (r.0, r.1 ∷ [])
+index_got ins out outer s o r w h g =
+    let x = then_ok (argument outer 1 s o.name) _ r g in
+    let u = then_ok (demand (is_elem x.0.1.1 Index) (TypeDiffers o.name.start)) _ r x.2 in
+    let k = argument_got ins out outer 1 s o.name x.0 w h x.1 in
+    let index : x.0.1.1 ≡ Index = elem_same x.0.1.1 Index (demand_ok _ _ u.0 u.1) in
+    subst (λ (y : Inside × Arg). GotIndices ins out s (y.0, y.1 ∷ [])) (ok_same (x.0.0, x.0.1.0) r u.2)
+    (record { inner = k.inner; more = k.more; grown = k.grown; typed = (k.typed ∙ ap (λ (e : ElemTy). Some e) index, tt) })
+
+indices_got : (ins : List ElemTy) (out : ElemTy) (outer : List Entry) (s : Inside) (os : List ApplyOperand) (r : Inside × List Arg) → IsOuter outer → Inner ins out s → thread (index_argument outer) s os ≡ Ok r → GotIndices ins out s r
+indices_got ins out outer s [] r w h g =
+    subst (λ (y : Inside × List Arg). GotIndices ins out s y) (ok_same (s, []) r g) (record { inner = h; more = []; grown = sym (append-nil s.steps); typed = tt })
+indices_got ins out outer s (o ∷ os) r w h g =
+    let x = then_ok (index_argument outer s o) _ r g in
+    let y = then_ok (thread (index_argument outer) x.0.0 os) _ r x.2 in
+    let k = index_got ins out outer s o x.0 w h x.1 in
+    subst (λ (z : Inside × List Arg). GotIndices ins out s z) (ok_same (y.0.0, x.0.1 ∷ y.0.1) r y.2) (both_got ins out s (x.0.0, x.0.1 ∷ []) y.0 k (indices_got ins out outer x.0.0 os y.0 w k.inner y.1))
+
+apply_got : (ins : List ElemTy) (out : ElemTy) (outer : List Entry) (s : Inside) (a : ApplyStep) (r : Inside × List Arg) → IsOuter outer → Inner ins out s → apply_arguments outer s a ≡ Ok r → GotIndices ins out s r
+apply_got ins out outer s a r w h g =
+    let x = then_ok (thread (index_argument outer) s a.operands) _ r g in
+    let y = then_ok (thread (index_argument outer) x.0.0 (symbol_operands a.symbols)) _ r x.2 in
+    let k = indices_got ins out outer s a.operands x.0 w h x.1 in
+    subst (λ (z : Inside × List Arg). GotIndices ins out s z) (ok_same (y.0.0, x.0.1 ++ y.0.1) r y.2) (both_got ins out s x.0 y.0 k (indices_got ins out outer x.0.0 (symbol_operands a.symbols) y.0 w k.inner y.1))
+
+one_found : (at : ℕ) (o : Option Expr) (e : Expr) → one_result at o ≡ Ok e → o ≡ Some e
+one_found at None e h = absurd (cc h)
+one_found at (Some x) e h = ap (λ (y : Expr). Some y) (ok_same x e h)
+
+index_at : (at : Arg → Option ElemTy) (xs : List Arg) (k : ℕ) (d : Arg) → AllByRecursion (λ a. at a ≡ Some Index) xs → k < length xs → at (get_or xs k d) ≡ Some Index
+index_at at [] k d h l = absurd (omega (arith, l))
+index_at at (x ∷ xs) zero d h l = h.0
+index_at at (x ∷ xs) (suc k) d h l = index_at at xs k d h.1 (omega (arith, l))
+
+terms_typed : (at : Arg → Option ElemTy) (xs : List Arg) (low : ℕ) (ts : List (ℕ × ℤ)) → AllByRecursion (λ a. at a ≡ Some Index) xs → terms_fit (length xs) ts low ≡ true → list_all (term_fits at) (map (term_on xs) ts) ≡ true
+terms_typed at xs low [] h k = refl
+terms_typed at xs low (t ∷ ts) h k =
+    let f = first_term (length xs) low t ts k in
+    and_from _ _ (and_from _ _ (has_elem (at (get_or xs t.0 args.Out)) Index Index (index_at at xs t.0 args.Out h f.below) refl) f.coefficient) (terms_typed at xs (t.0 + 1) ts h f.others)
+
+linear_fits : (at : Arg → Option ElemTy) (e : Expr) (xs : List Arg) → AllByRecursion (λ a. at a ≡ Some Index) xs → expr_fits (length xs) e ≡ true → op_fits at Index (linear e xs).op ≡ true
+linear_fits at e xs h k =
+    let p = terms_are (length xs) e k in
+    and_from _ _ (and_from _ _ refl p.0) (terms_typed at xs 0 e.terms h p.1)
+
+-- ---- one of the operations
+
+operation_fits : (ins : List ElemTy) (out : ElemTy) (aliases : List AliasShape) (outer : List Entry) (stop : Option ℕ) (s : Inside) (o : StepOperation) (r : Inside × PayloadStep) → AreMaps aliases → IsOuter outer → Inner ins out s → operation_of aliases outer stop s o ≡ Ok r → Fitted ins out r
+operation_fits ins out aliases outer stop s (operations.Constant c) r maps w h g =
     let x = then_ok (literal_of c.literal) _ r g in
     fitted ins out s (constant_step x.0.0 x.0.1) r x.2 h (literal_value x.0.0 x.0.1 (literal_is c.literal x.0 x.1))
-operation_fits ins out outer s (operations.Binary b) r w h g =
+operation_fits ins out aliases outer stop s (operations.Binary b) r maps w h g =
     let op = then_ok (named b.name.start (named_binary b.name.text)) _ r g in
     let x = then_ok (argument outer 1 s b.left) _ r op.2 in
     let y = then_ok (argument outer 1 x.0.0 b.right) _ r x.2 in
@@ -260,7 +343,7 @@ operation_fits ins out outer s (operations.Binary b) r w h g =
     let one = written_same y.0.1.1 x.0.1.1 b.ty v.0 u.0 v.1 u.1 in
     fitted ins out y.0.0 (record { ty = x.0.1.1; op = ops.Binary op.0 x.0.1.0 y.0.1.0 }) r v.2 right.inner
     (and_from _ _ (has_elem _ x.0.1.1 x.0.1.1 (still ins out x.0.0 y.0 x.0.1.0 x.0.1.1 right left.typed) refl) (has_elem _ y.0.1.1 x.0.1.1 right.typed one))
-operation_fits ins out outer s (operations.Compare c) r w h g =
+operation_fits ins out aliases outer stop s (operations.Compare c) r maps w h g =
     let p = then_ok (named c.predicate.start (named_predicate c.predicate.text)) _ r g in
     let x = then_ok (argument outer 1 s c.left) _ r p.2 in
     let y = then_ok (argument outer 1 x.0.0 c.right) _ r x.2 in
@@ -271,7 +354,7 @@ operation_fits ins out outer s (operations.Compare c) r w h g =
     let one = written_same x.0.1.1 y.0.1.1 c.ty u.0 v.0 u.1 v.1 in
     fitted ins out y.0.0 (record { ty = Int 1; op = ops.Compare p.0 x.0.1.0 y.0.1.0 }) r v.2 right.inner
     (and_from _ _ refl (one_type _ _ x.0.1.1 y.0.1.1 (still ins out x.0.0 y.0 x.0.1.0 x.0.1.1 right left.typed) right.typed one))
-operation_fits ins out outer s (operations.Select c) r w h g =
+operation_fits ins out aliases outer stop s (operations.Select c) r maps w h g =
     let b = then_ok (argument outer 1 s c.condition) _ r g in
     let x = then_ok (argument outer 1 b.0.0 c.chosen) _ r b.2 in
     let y = then_ok (argument outer 1 x.0.0 c.other) _ r x.2 in
@@ -286,16 +369,26 @@ operation_fits ins out outer s (operations.Select c) r w h g =
     fitted ins out y.0.0 (record { ty = x.0.1.1; op = ops.Select b.0.1.0 x.0.1.0 y.0.1.0 }) r z.2 right.inner
     (and_from _ _ (and_from _ _ (has_elem _ b.0.1.1 (Int 1) cond_typed (elem_same b.0.1.1 (Int 1) (demand_ok _ _ z.0 z.1))) (has_elem _ x.0.1.1 x.0.1.1 (still ins out x.0.0 y.0 x.0.1.0 x.0.1.1 right left.typed) refl))
     (has_elem _ y.0.1.1 x.0.1.1 right.typed one))
-operation_fits ins out outer s (operations.IndexCast c) r w h g =
+operation_fits ins out aliases outer stop s (operations.IndexCast c) r maps w h g =
     let x = then_ok (converted outer s c.conversion) _ r g in
     let to = then_ok (elem_at c.conversion.to) _ r x.2 in
     let d = then_ok (demand (is_cast (Some x.0.1.1) to.0) (TypeDiffers c.conversion.to.start)) _ r to.2 in
     let k = converted_got ins out outer s c.conversion x.0 w h x.1 in
     fitted ins out x.0.0 (record { ty = to.0; op = ops.IndexCast x.0.1.0 }) r d.2 k.inner (index_cast_fits (arg_type ins out x.0.0.steps x.0.1.0) x.0.1.1 to.0 k.typed (demand_ok _ _ d.0 d.1))
-operation_fits ins out outer s (operations.Index i) r w h g =
+operation_fits ins out aliases outer stop s (operations.Index i) r maps w h g =
     let d = then_ok (demand (nat_le (digits_value i.dimension.text) 1048576) (Number i.dimension.start i.dimension.start)) _ r g in
     fitted ins out s (record { ty = Index; op = ops.Index (digits_value i.dimension.text) }) r d.2 h refl
-operation_fits ins out outer s (operations.Cast c) r w h g =
+operation_fits ins out aliases outer stop s (operations.Apply a) r maps w h g =
+    let m = then_ok (map_with_symbols aliases a.map) _ r g in
+    let e = then_ok (one_result (use_start a.map) (only m.0.results)) _ r m.2 in
+    let u = then_ok (fault_of_map stop (fits_operands m.0 a) (use_start a.map)) _ r e.2 in
+    let x = then_ok (apply_arguments outer s a) _ r u.2 in
+    let v = then_ok (fault_at_stop stop (fits_operands m.0 a)) _ r x.2 in
+    let k = apply_got ins out outer s a x.0 w h x.1 in
+    let fits = not_told stop (fits_operands m.0 a) (use_start a.map) u.0 v.0 u.1 v.1 in
+    let over = applied_fits m.0 e.0 a x.0.1 (used_is_map aliases a.map m.0 maps m.1) (one_found (use_start a.map) (only m.0.results) e.0 e.1) fits (apply_counted outer s a x.0 x.1) in
+    fitted ins out x.0.0 (linear e.0 x.0.1) r v.2 k.inner (linear_fits (arg_type ins out x.0.0.steps) e.0 x.0.1 k.typed over)
+operation_fits ins out aliases outer stop s (operations.Cast c) r maps w h g =
     let n = then_ok (named c.name.start (named_cast c.name.text)) _ r g in
     let x = then_ok (converted outer s c.conversion) _ r n.2 in
     let i = then_ok (demand (is_integer x.0.1.1) (TypeDiffers c.conversion.from.start)) _ r x.2 in
@@ -306,29 +399,29 @@ operation_fits ins out outer s (operations.Cast c) r w h g =
 
 -- ---- the whole
 
-steps_inner : (ins : List ElemTy) (out : ElemTy) (outer : List Entry) (s : Inside) (ts : List Step) (y : Inside) → IsOuter outer → Inner ins out s → steps_of outer s ts ≡ Ok y → Inner ins out y
-steps_inner ins out outer s [] y o h g = subst (λ x. Inner ins out x) (ok_same s y g) h
-steps_inner ins out outer s (t ∷ ts) y o h g =
-    let n = then_ok (step_of outer s t) _ y g in
+steps_inner : (ins : List ElemTy) (out : ElemTy) (aliases : List AliasShape) (outer : List Entry) (stop : Option ℕ) (s : Inside) (ts : List Step) (y : Inside) → AreMaps aliases → IsOuter outer → Inner ins out s → steps_of aliases outer stop s ts ≡ Ok y → Inner ins out y
+steps_inner ins out aliases outer stop s [] y maps o h g = subst (λ x. Inner ins out x) (ok_same s y g) h
+steps_inner ins out aliases outer stop s (t ∷ ts) y maps o h g =
+    let n = then_ok (step_of aliases outer (stop_behind stop ts) s t) _ y g in
     let f = then_ok (fresh_in outer s.names t.result) _ n.0 n.1 in
     let d = then_ok (room s (name_in t.operation)) _ n.0 f.2 in
-    let p = then_ok (operation_of outer s t.operation) _ n.0 d.2 in
-    let k = operation_fits ins out outer s t.operation p.0 o h p.1 in
-    steps_inner ins out outer n.0 ts y o (subst (λ x. Inner ins out x) (ok_same (with_step p.0.0 t.result.text p.0.1) n.0 p.2) (with_inner ins out p.0.0 t.result.text p.0.1 k.inner k.fits)) n.2
+    let p = then_ok (operation_of aliases outer (stop_behind stop ts) s t.operation) _ n.0 d.2 in
+    let k = operation_fits ins out aliases outer (stop_behind stop ts) s t.operation p.0 maps o h p.1 in
+    steps_inner ins out aliases outer stop n.0 ts y maps o (subst (λ x. Inner ins out x) (ok_same (with_step p.0.0 t.result.text p.0.1) n.0 p.2) (with_inner ins out p.0.0 t.result.text p.0.1 k.inner k.fits)) n.2
 
 joined : (ins : List ElemTy) (out : ElemTy) (ps : List PayloadStep) (a : Arg) (p : List PayloadStep × Arg) → steps_fit ins out ps [] ≡ true → has_type (arg_type ins out ps a) out ≡ true → (ps, a) ≡ p → IsPayload (record { ins = ins; out = out; steps = p.0; yielded = p.1 })
 joined ins out ps a p f t e = subst (λ (x : List PayloadStep × Arg). IsPayload (record { ins = ins; out = out; steps = x.0; yielded = x.1 })) e (and_from _ _ f t)
 
 -- the parts of a resolved region fit
-pub parts_fit : (outer : List Entry) (ins : List ElemTy) (out : ElemTy) (region : Region) (p : List PayloadStep × Arg) → IsOuter outer → parts_of outer ins out region ≡ Ok p → IsPayload (record { ins = ins; out = out; steps = p.0; yielded = p.1 })
-parts_fit outer ins out region p h g =
+pub parts_fit : (aliases : List AliasShape) (outer : List Entry) (ins : List ElemTy) (out : ElemTy) (region : Region) (p : List PayloadStep × Arg) → AreMaps aliases → IsOuter outer → parts_of aliases outer ins out region ≡ Ok p → IsPayload (record { ins = ins; out = out; steps = p.0; yielded = p.1 })
+parts_fit aliases outer ins out region p maps h g =
     let a = then_ok (block_args outer [] (locals_of 0 ins out) region.args) _ p g in
-    let s = then_ok (steps_of outer (record { names = a.0; steps = [] }) region.steps) _ p a.2 in
+    let s = then_ok (steps_of aliases outer (stop_before_yield region) (record { names = a.0; steps = [] }) region.steps) _ p a.2 in
     let y = then_ok (argument outer 0 s.0 region.yielded) _ p s.2 in
     let u = then_ok (same_elem y.0.1.1 region.yield_type) _ p y.2 in
     let v = then_ok (same_elem out region.yield_type) _ p u.2 in
     let names = block_stands ins out outer [] (locals_of 0 ins out) region.args a.0 tt (locals_stand ins out 0 ins refl) a.1 in
-    let inner = steps_inner ins out outer (record { names = a.0; steps = [] }) region.steps s.0 h (record { fit = refl; stand = names }) s.1 in
+    let inner = steps_inner ins out aliases outer (stop_before_yield region) (record { names = a.0; steps = [] }) region.steps s.0 maps h (record { fit = refl; stand = names }) s.1 in
     let k = argument_got ins out outer 0 s.0 region.yielded y.0 h inner y.1 in
     let one = written_same y.0.1.1 out region.yield_type u.0 v.0 u.1 v.1 in
     joined ins out y.0.0.steps y.0.1.0 p k.inner.fit (has_elem (arg_type ins out y.0.0.steps y.0.1.0) y.0.1.1 out k.typed one) (ok_same (y.0.0.steps, y.0.1.0) p v.2)

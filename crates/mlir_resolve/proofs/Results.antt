@@ -1,6 +1,5 @@
 -- What the names of results stand for: a scalar constant has a value that some literal has.
-use Rattle.std.proofs.Common.{◌≡◌, ℕ, Bool, true, false, List, [], ◌∷◌, subst, Option, Result, Ok, Err, refl}
-use Rattle.payload_ops.specs.declared.kinds.ElemTy.{ElemTy}
+use Rattle.std.proofs.Common.{◌≡◌, ℕ, Bool, true, false, List, [], ◌∷◌, subst, Ok, refl}
 use Rattle.mlir_ir.specs.declared.tree.Ty.{Ty}
 use Rattle.mlir_ir.specs.declared.tree.Ty.TheVariants.{Scalar, Tensor, Vector}
 use Rattle.mlir_ir.specs.declared.tree.ValueId.{ValueId}
@@ -15,17 +14,16 @@ use Rattle.mlir_syntax.specs.declared.tree.operations.Operation.{Operation}
 use Rattle.mlir_syntax.specs.declared.tree.operations.Operation.TheVariants as operations
 use Rattle.mlir_resolve.specs.declared.dense.Mark.{Mark}
 use Rattle.mlir_resolve.specs.declared.dense.Wanted.TheVariants.{Whole}
-use Rattle.mlir_lex.specs.declared.fault.Fault.{Fault}
-use Rattle.mlir_lex.specs.Chain.{and_then, each}
+use Rattle.mlir_lex.specs.Chain.{each}
 use Rattle.mlir_resolve.specs.Names.{Entry}
 use Rattle.mlir_resolve.specs.Types.{type_at}
 use Rattle.mlir_resolve.specs.Scope.{IsHeld}
 use Rattle.mlir_resolve.specs.Literals.{literal_of}
 use Rattle.mlir_resolve.specs.Constants.{constant, of_integer, scalar_of, nested_from, elements_width, elements_from, shape_marks, cells_in, dense_of, constant_of, result_meaning}
 use Rattle.mlir_resolve.specs.Maps.{AliasShape, map_of}
-use Rattle.mlir_resolve.specs.Generics.{iterators_from, operands_of, generic_with, generic_of}
+use Rattle.mlir_resolve.specs.Generics.{iterators_from, operands_of, generic_with}
 use Rattle.mlir_resolve.specs.Payload.{payload_of}
-use Rattle.mlir_resolve.specs.Structured.{axis_of, typed_id, output_of, fill_of, factors_of, product_of, moved_of, transpose_of, broadcast_of}
+use Rattle.mlir_resolve.specs.Structured.{axis_of, typed_id, output_of, factors_of, product_of, moved_of}
 use Rattle.mlir_resolve.specs.Operations.{kind_of}
 use Rattle.mlir_resolve.proofs.Keeps.{then_ok, ok_same}
 use Rattle.mlir_resolve.proofs.Ranges.{literal_is}
@@ -84,7 +82,7 @@ kind_fits aliases env n (operations.Generic g) k h =
     let a = then_ok (each (map_of aliases) g.maps) _ k h in
     let b = then_ok (iterators_from 0 g.iterators) _ k a.2 in
     let c = then_ok (operands_of env g.operands) _ k b.2 in
-    let d = then_ok (payload_of env _ c.0.1.1 g.region) _ k c.2 in
+    let d = then_ok (payload_of aliases env _ c.0.1.1 g.region) _ k c.2 in
     let e = then_ok (type_at g.result_type) _ k d.2 in
     subst (λ x. Fits n x) (ok_same (e.0, generic_with a.0 b.0 c.0.0 c.0.1.0 d.0) k e.2) (other n e.0 (generic_with a.0 b.0 c.0.0 c.0.1.0 d.0) refl)
 kind_fits aliases env n (operations.Fill f) k h =

@@ -11,6 +11,8 @@ use Rattle.payload_ops.specs.declared.step.PayloadStep.{PayloadStep}
 use Rattle.payload_ops.specs.Payload.{is_elem, is_cast}
 use Rattle.text_format.specs.Token.{TokenShape}
 use Rattle.mlir_syntax.specs.declared.tree.steps.Conversion.{Conversion}
+use Rattle.mlir_syntax.specs.declared.tree.steps.ApplyOperand.{ApplyOperand}
+use Rattle.mlir_syntax.specs.declared.tree.steps.ApplyStep.{ApplyStep}
 use Rattle.mlir_syntax.specs.declared.tree.steps.StepOperation.{StepOperation}
 use Rattle.mlir_syntax.specs.declared.tree.steps.StepOperation.TheVariants as operations
 use Rattle.mlir_ir.specs.declared.tree.Which.TheVariants as limits
@@ -19,13 +21,14 @@ use Rattle.mlir_lex.specs.declared.fault.Fault.TheVariants.{Limit, Twice, TypeDi
 use Rattle.mlir_resolve.specs.declared.names.Inside.{Inside}
 use Rattle.mlir_resolve.specs.declared.names.Meaning.{Meaning}
 use Rattle.mlir_resolve.specs.declared.names.Meaning.TheVariants.{Held, Constant, Local}
-use Rattle.mlir_lex.specs.Chain.{and_then, demand}
+use Rattle.mlir_lex.specs.Chain.{demand, thread}
+use Rattle.mlir_resolve.specs.Maps.{AliasShape, map_with_symbols, use_start}
 use Rattle.mlir_resolve.specs.Names.{Entry, entry, find}
 use Rattle.mlir_resolve.specs.Types.{same_elem}
 use Rattle.mlir_resolve.specs.Literals.{digits_value, elem_at, literal_of}
 use Rattle.mlir_resolve.specs.Words.{named_binary, named_predicate, named_cast}
 use Rattle.mlir_resolve.specs.Scope.{fresh}
-use Rattle.mlir_resolve.specs.Steps.{fresh_in, with_step, constant_step, brought, argument_by, argument, named, converted, is_integer, changes_width, cast_op, operation_of}
+use Rattle.mlir_resolve.specs.Steps.{fresh_in, with_step, constant_step, brought, argument_by, argument, named, converted, is_integer, changes_width, symbol_operands, fits_operands, only, one_result, fault_of_map, fault_at_stop, index_argument, apply_arguments, linear, operation_of}
 use Rattle.mlir_resolve.proofs.Keeps.{then_ok, ok_same}
 
 new_if : (b : Bool) (x : Meaning) (o p : Option Meaning) → (o ≡ None → p ≡ None) → cond b (Some x) o ≡ None → cond b (Some x) p ≡ None
@@ -69,25 +72,44 @@ module _ (outer : List Entry) (q : List ℕ) (away : find outer q ≡ None) wher
   ends : (s : Inside) (p : PayloadStep) (r : Inside × PayloadStep) → ◌≡◌ {A = Result (Inside × PayloadStep) Fault} (Ok (s, p)) (Ok r) → find s.names q ≡ None → find r.0.names q ≡ None
   ends s p r e h = subst (λ (y : Inside × PayloadStep). find y.0.names q ≡ None) (ok_same (s, p) r e) h
 
-  pub operation_new : (s : Inside) (o : StepOperation) (r : Inside × PayloadStep) → operation_of outer s o ≡ Ok r → find s.names q ≡ None → find r.0.names q ≡ None
-  operation_new s (operations.Constant c) r g h =
+  index_new : (s : Inside) (o : ApplyOperand) (r : Inside × Arg) → find s.names q ≡ None → index_argument outer s o ≡ Ok r → find r.0.names q ≡ None
+  index_new s o r h g =
+      let x = then_ok (argument outer 1 s o.name) _ r g in
+      let u = then_ok (demand (is_elem x.0.1.1 Index) (TypeDiffers o.name.start)) _ r x.2 in
+      subst (λ (y : Inside × Arg). find y.0.names q ≡ None) (ok_same (x.0.0, x.0.1.0) r u.2) (argument_new 1 s o.name x.0 h x.1)
+
+  indices_new : (os : List ApplyOperand) (s : Inside) (r : Inside × List Arg) → find s.names q ≡ None → thread (index_argument outer) s os ≡ Ok r → find r.0.names q ≡ None
+  indices_new [] s r h g = subst (λ (y : Inside × List Arg). find y.0.names q ≡ None) (ok_same (s, []) r g) h
+  indices_new (o ∷ os) s r h g =
+      let x = then_ok (index_argument outer s o) _ r g in
+      let y = then_ok (thread (index_argument outer) x.0.0 os) _ r x.2 in
+      subst (λ (z : Inside × List Arg). find z.0.names q ≡ None) (ok_same (y.0.0, x.0.1 ∷ y.0.1) r y.2) (indices_new os x.0.0 y.0 (index_new s o x.0 h x.1) y.1)
+
+  apply_new : (s : Inside) (a : ApplyStep) (r : Inside × List Arg) → find s.names q ≡ None → apply_arguments outer s a ≡ Ok r → find r.0.names q ≡ None
+  apply_new s a r h g =
+      let x = then_ok (thread (index_argument outer) s a.operands) _ r g in
+      let y = then_ok (thread (index_argument outer) x.0.0 (symbol_operands a.symbols)) _ r x.2 in
+      subst (λ (z : Inside × List Arg). find z.0.names q ≡ None) (ok_same (y.0.0, x.0.1 ++ y.0.1) r y.2) (indices_new (symbol_operands a.symbols) x.0.0 y.0 (indices_new a.operands s x.0 h x.1) y.1)
+
+  pub operation_new : (aliases : List AliasShape) (stop : Option ℕ) (s : Inside) (o : StepOperation) (r : Inside × PayloadStep) → operation_of aliases outer stop s o ≡ Ok r → find s.names q ≡ None → find r.0.names q ≡ None
+  operation_new aliases stop s (operations.Constant c) r g h =
       let x = then_ok (literal_of c.literal) _ r g in
       ends s _ r x.2 h
-  operation_new s (operations.Binary b) r g h =
+  operation_new aliases stop s (operations.Binary b) r g h =
       let op = then_ok (named b.name.start (named_binary b.name.text)) _ r g in
       let x = then_ok (argument outer 1 s b.left) _ r op.2 in
       let y = then_ok (argument outer 1 x.0.0 b.right) _ r x.2 in
       let u = then_ok (same_elem x.0.1.1 b.ty) _ r y.2 in
       let v = then_ok (same_elem y.0.1.1 b.ty) _ r u.2 in
       ends y.0.0 _ r v.2 (argument_new 1 x.0.0 b.right y.0 (argument_new 1 s b.left x.0 h x.1) y.1)
-  operation_new s (operations.Compare c) r g h =
+  operation_new aliases stop s (operations.Compare c) r g h =
       let p = then_ok (named c.predicate.start (named_predicate c.predicate.text)) _ r g in
       let x = then_ok (argument outer 1 s c.left) _ r p.2 in
       let y = then_ok (argument outer 1 x.0.0 c.right) _ r x.2 in
       let u = then_ok (same_elem x.0.1.1 c.ty) _ r y.2 in
       let v = then_ok (same_elem y.0.1.1 c.ty) _ r u.2 in
       ends y.0.0 _ r v.2 (argument_new 1 x.0.0 c.right y.0 (argument_new 1 s c.left x.0 h x.1) y.1)
-  operation_new s (operations.Select c) r g h =
+  operation_new aliases stop s (operations.Select c) r g h =
       let b = then_ok (argument outer 1 s c.condition) _ r g in
       let x = then_ok (argument outer 1 b.0.0 c.chosen) _ r b.2 in
       let y = then_ok (argument outer 1 x.0.0 c.other) _ r x.2 in
@@ -95,15 +117,22 @@ module _ (outer : List Entry) (q : List ℕ) (away : find outer q ≡ None) wher
       let v = then_ok (same_elem y.0.1.1 c.ty) _ r u.2 in
       let z = then_ok (demand (is_elem b.0.1.1 (Int 1)) (TypeDiffers c.ty.start)) _ r v.2 in
       ends y.0.0 _ r z.2 (argument_new 1 x.0.0 c.other y.0 (argument_new 1 b.0.0 c.chosen x.0 (argument_new 1 s c.condition b.0 h b.1) x.1) y.1)
-  operation_new s (operations.IndexCast c) r g h =
+  operation_new aliases stop s (operations.IndexCast c) r g h =
       let x = then_ok (converted outer s c.conversion) _ r g in
       let to = then_ok (elem_at c.conversion.to) _ r x.2 in
       let d = then_ok (demand (is_cast (Some x.0.1.1) to.0) (TypeDiffers c.conversion.to.start)) _ r to.2 in
       ends x.0.0 _ r d.2 (converted_new s c.conversion x.0 h x.1)
-  operation_new s (operations.Index i) r g h =
+  operation_new aliases stop s (operations.Index i) r g h =
       let d = then_ok (demand (nat_le (digits_value i.dimension.text) 1048576) (Number i.dimension.start i.dimension.start)) _ r g in
       ends s (record { ty = Index; op = ops.Index (digits_value i.dimension.text) }) r d.2 h
-  operation_new s (operations.Cast c) r g h =
+  operation_new aliases stop s (operations.Apply a) r g h =
+      let m = then_ok (map_with_symbols aliases a.map) _ r g in
+      let e = then_ok (one_result (use_start a.map) (only m.0.results)) _ r m.2 in
+      let u = then_ok (fault_of_map stop (fits_operands m.0 a) (use_start a.map)) _ r e.2 in
+      let x = then_ok (apply_arguments outer s a) _ r u.2 in
+      let v = then_ok (fault_at_stop stop (fits_operands m.0 a)) _ r x.2 in
+      ends x.0.0 (linear e.0 x.0.1) r v.2 (apply_new s a x.0 h x.1)
+  operation_new aliases stop s (operations.Cast c) r g h =
       let n = then_ok (named c.name.start (named_cast c.name.text)) _ r g in
       let x = then_ok (converted outer s c.conversion) _ r n.2 in
       let i = then_ok (demand (is_integer x.0.1.1) (TypeDiffers c.conversion.from.start)) _ r x.2 in

@@ -91,6 +91,6 @@ generic_of aliases env g =
     and_then (each (map_of aliases) g.maps) (λ maps.
     and_then (iterators_from 0 g.iterators) (λ iterators.
     and_then (operands_of env g.operands) (λ o.
-    and_then (payload_of env (map (λ v. v.1) o.0) o.1.1 g.region) (λ p.
+    and_then (payload_of aliases env (map (λ v. v.1) o.0) o.1.1 g.region) (λ p.
     and_then (type_at g.result_type) (λ ty.
     Ok (ty, generic_with maps iterators o.0 o.1.0 p))))))

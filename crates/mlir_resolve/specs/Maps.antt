@@ -2,7 +2,9 @@
 use Rattle.std.specs.Prelude.{ℕ, Bool, true, false, not, ◌&&◌, List, [], ◌∷◌, ◌++◌, map, codes, Result, Ok, Err, Option, Some, None, if◌then◌else◌, is_none, refl}
 use Rattle.std.specs.Str.{bytes_eq}
 use Rattle.std.specs.Coded.{Coded, code_by, coded×, coded_ℕ, coded_list, coded_bool}
+use Rattle.std.specs.List.{AllByRecursion}
 use Rattle.affine_maps.specs.Shape.{MapShape, map_code}
+use Rattle.affine_maps.specs.Map.{IsMap}
 use Rattle.affine_text.specs.declared.reading.fault.MapError.{MapError}
 use Rattle.affine_text.specs.declared.reading.fault.MapError.TheVariants as errors
 use Rattle.affine_text.specs.Grammar.{Items, Empty, From, Declared, Symbols}
@@ -76,6 +78,10 @@ abbrev pub aliased : List AliasShape → List ℕ → Option AliasShape
 aliased [] name = None
 aliased (a ∷ entries) name = if bytes_eq a.name name then Some a else aliased entries name
 
+-- each map keeps the rule on maps
+abbrev pub AreMaps : List AliasShape → Type 0
+AreMaps entries = AllByRecursion (λ a. IsMap a.map) entries
+
 abbrev pub names_of : List AliasShape → List (List ℕ)
 names_of entries = map (λ a. a.name) entries
 
@@ -96,3 +102,18 @@ alias_map at (Some a) = and_then (demand (not a.symbols) (Unsupported at)) (λ _
 abbrev pub map_of : List AliasShape → MapUse → Result MapShape Fault
 map_of aliases (uses.Alias t) = alias_map t.start (aliased aliases t.text)
 map_of aliases (uses.Written m) = written_map false m
+
+-- the map of an alias that is used where maps may have symbols
+abbrev pub alias_map_with_symbols : ℕ → Option AliasShape → Result MapShape Fault
+alias_map_with_symbols at None = Err (UnknownName at)
+alias_map_with_symbols at (Some a) = Ok a.map
+
+-- the map of an alias in scope, or a written one; its symbols are its last dimensions
+abbrev pub map_with_symbols : List AliasShape → MapUse → Result MapShape Fault
+map_with_symbols aliases (uses.Alias t) = alias_map_with_symbols t.start (aliased aliases t.text)
+map_with_symbols aliases (uses.Written m) = written_map true m
+
+-- where a use begins
+abbrev pub use_start : MapUse → ℕ
+use_start (uses.Alias t) = t.start
+use_start (uses.Written m) = m.keyword.start

@@ -1,5 +1,5 @@
 -- Payloads of linalg.generic (MLIR Linalg dialect, "linalg.generic": the block has an argument for each operand and yields the output's element).
-use Rattle.std.specs.Prelude.{ℕ, suc, List, [], ◌∷◌, ◌++◌, Result, Ok, Err}
+use Rattle.std.specs.Prelude.{ℕ, suc, List, [], ◌∷◌, ◌++◌, Result, Ok, Err, Option, Some, None, if◌then◌else◌, nat_lt}
 use Rattle.payload_ops.specs.declared.kinds.ElemTy.{ElemTy}
 use Rattle.payload_ops.specs.declared.step.Arg.{Arg}
 use Rattle.payload_ops.specs.declared.step.Arg.TheVariants as args
@@ -15,6 +15,7 @@ use Rattle.mlir_lex.specs.declared.fault.Fault.{Fault}
 use Rattle.mlir_lex.specs.declared.fault.Fault.TheVariants.{Syntax}
 use Rattle.mlir_lex.specs.Chain.{and_then}
 use Rattle.mlir_resolve.specs.Names.{Entry, entry}
+use Rattle.mlir_resolve.specs.Maps.{AliasShape}
 use Rattle.mlir_resolve.specs.Types.{same_elem}
 use Rattle.mlir_resolve.specs.Steps.{fresh_in, argument, steps_of}
 
@@ -43,12 +44,16 @@ abbrev pub yield_of : List Entry → ElemTy → Inside → Region → Result (Li
 yield_of outer out s r =
     and_then (argument outer 0 s r.yielded) (λ y. and_then (same_elem y.1.1 r.yield_type) (λ _. and_then (same_elem out r.yield_type) (λ _. Ok (y.0.steps, y.1.0))))
 
+-- where reading stopped, if it did so before the yield: tokens that are missing stand at one place
+abbrev pub stop_before_yield : Region → Option ℕ
+stop_before_yield r = if nat_lt r.yield_name.start r.yielded.start then None else Some r.yield_name.start
+
 -- the steps, and what is yielded
-abbrev pub parts_of : List Entry → List ElemTy → ElemTy → Region → Result (List PayloadStep × Arg) Fault
-parts_of outer ins out r =
+abbrev pub parts_of : List AliasShape → List Entry → List ElemTy → ElemTy → Region → Result (List PayloadStep × Arg) Fault
+parts_of aliases outer ins out r =
     and_then (block_args outer [] (locals_of 0 ins out) r.args) (λ names.
-    and_then (steps_of outer (record { names = names; steps = [] }) r.steps) (λ s. yield_of outer out s r))
+    and_then (steps_of aliases outer (stop_before_yield r) (record { names = names; steps = [] }) r.steps) (λ s. yield_of outer out s r))
 
 -- a payload over inputs and an output of these element types
-abbrev pub payload_of : List Entry → List ElemTy → ElemTy → Region → Result PayloadShape Fault
-payload_of outer ins out r = and_then (parts_of outer ins out r) (λ p. Ok (record { ins = ins; out = out; steps = p.0; yielded = p.1 }))
+abbrev pub payload_of : List AliasShape → List Entry → List ElemTy → ElemTy → Region → Result PayloadShape Fault
+payload_of aliases outer ins out r = and_then (parts_of aliases outer ins out r) (λ p. Ok (record { ins = ins; out = out; steps = p.0; yielded = p.1 }))

@@ -1,5 +1,5 @@
--- The steps of a payload (MLIR Arith dialect; Linalg dialect, "linalg.index"): what each stands for, or its first fault, in the order of its tokens.
-use Rattle.std.specs.Prelude.{ℕ, ◌+◌, Bool, true, false, List, [], ◌∷◌, ◌++◌, length, Result, Ok, Err, Option, Some, None, nat_lt, nat_le}
+-- The steps of a payload (MLIR Arith dialect; Linalg dialect, "linalg.index"; Affine dialect, "affine.apply"): what each stands for, or its first fault, in the order of its tokens.
+use Rattle.std.specs.Prelude.{ℕ, ℤ, ◌+◌, ◌==◌, Bool, true, false, List, [], ◌∷◌, ◌++◌, length, map, get_or, Result, Ok, Err, Option, Some, None, nat_lt, nat_le}
 use Rattle.payload_ops.specs.declared.kinds.ElemTy.{ElemTy}
 use Rattle.payload_ops.specs.declared.kinds.ElemTy.TheVariants.{Int, Index as IndexType}
 use Rattle.payload_ops.specs.declared.step.Arg.{Arg}
@@ -8,6 +8,8 @@ use Rattle.payload_ops.specs.declared.step.StepOp.{StepOp}
 use Rattle.payload_ops.specs.declared.step.StepOp.TheVariants as ops
 use Rattle.payload_ops.specs.declared.step.PayloadStep.{PayloadStep}
 use Rattle.payload_ops.specs.Payload.{is_elem, is_narrower, is_cast}
+use Rattle.affine_maps.specs.declared.map.Expr.{Expr}
+use Rattle.affine_maps.specs.Shape.{MapShape}
 use Rattle.mlir_ir.specs.declared.tree.Which.TheVariants as limits
 use Rattle.text_format.specs.Token.{TokenShape}
 use Rattle.mlir_syntax.specs.declared.tree.payloads.Step.{Step}
@@ -15,6 +17,9 @@ use Rattle.mlir_syntax.specs.declared.tree.steps.BinaryStep.{BinaryStep}
 use Rattle.mlir_syntax.specs.declared.tree.steps.CompareStep.{CompareStep}
 use Rattle.mlir_syntax.specs.declared.tree.steps.SelectStep.{SelectStep}
 use Rattle.mlir_syntax.specs.declared.tree.steps.Conversion.{Conversion}
+use Rattle.mlir_syntax.specs.declared.tree.steps.ApplyOperand.{ApplyOperand}
+use Rattle.mlir_syntax.specs.declared.tree.steps.ApplySymbols.{ApplySymbols}
+use Rattle.mlir_syntax.specs.declared.tree.steps.ApplyStep.{ApplyStep}
 use Rattle.mlir_syntax.specs.declared.tree.steps.StepOperation.{StepOperation}
 use Rattle.mlir_syntax.specs.declared.tree.steps.StepOperation.TheVariants as operations
 use Rattle.mlir_resolve.specs.declared.names.Meaning.{Meaning}
@@ -24,8 +29,9 @@ use Rattle.mlir_resolve.specs.declared.words.Cast.{Cast}
 use Rattle.mlir_resolve.specs.declared.words.Cast.TheVariants as changes
 use Rattle.mlir_lex.specs.declared.fault.Fault.{Fault}
 use Rattle.mlir_lex.specs.declared.fault.Fault.TheVariants.{Syntax, UnknownName, Unsupported, TypeDiffers, Number, Limit}
-use Rattle.mlir_lex.specs.Chain.{and_then, demand}
+use Rattle.mlir_lex.specs.Chain.{and_then, demand, thread}
 use Rattle.mlir_resolve.specs.Names.{Entry, entry, find}
+use Rattle.mlir_resolve.specs.Maps.{AliasShape, map_with_symbols, use_start}
 use Rattle.mlir_resolve.specs.Types.{same_elem}
 use Rattle.mlir_resolve.specs.Scope.{fresh}
 use Rattle.mlir_resolve.specs.Words.{named_binary, named_predicate, named_cast}
@@ -130,14 +136,73 @@ index_cast_of outer s c =
 abbrev pub index_of : Inside → TokenShape → Result (Inside × PayloadStep) Fault
 index_of s d = and_then (demand (nat_le (digits_value d.text) 1048576) (Number d.start d.start)) (λ _. Ok (s, record { ty = IndexType; op = ops.Index (digits_value d.text) }))
 
-abbrev pub operation_of : List Entry → Inside → StepOperation → Result (Inside × PayloadStep) Fault
-operation_of outer s (operations.Constant c) = and_then (literal_of c.literal) (λ x. Ok (s, constant_step x.0 x.1))
-operation_of outer s (operations.Binary b) = binary_of outer s b
-operation_of outer s (operations.Compare c) = compare_of outer s c
-operation_of outer s (operations.Select c) = select_of outer s c
-operation_of outer s (operations.IndexCast c) = index_cast_of outer s c.conversion
-operation_of outer s (operations.Index i) = index_of s i.dimension
-operation_of outer s (operations.Cast c) = cast_of outer s c.name c.conversion
+-- ---- affine.apply
+
+-- the operands in brackets
+abbrev pub symbol_operands : Option ApplySymbols → List ApplyOperand
+symbol_operands None = []
+symbol_operands (Some b) = b.operands
+
+-- the map has a dimension for each operand, those in brackets counted with the others
+abbrev pub fits_operands : MapShape → ApplyStep → Bool
+fits_operands m a = m.dims == length a.operands + length (symbol_operands a.symbols)
+
+abbrev pub only : List Expr → Option Expr
+only [] = None
+only (e ∷ []) = Some e
+only (e ∷ f ∷ es) = None
+
+-- a map that is applied has one result
+abbrev pub one_result : ℕ → Option Expr → Result Expr Fault
+one_result at None = Err (Unsupported at)
+one_result at (Some e) = Ok e
+
+-- A wrong number of operands is a fault of the map. Where reading stopped behind the operands that there are, more may have
+-- been meant: then it is none before the stop.
+abbrev pub fault_of_map : Option ℕ → Bool → ℕ → Result (Unit {0}) Fault
+fault_of_map None fits at = demand fits (Unsupported at)
+fault_of_map (Some stop) fits at = Ok tt
+
+abbrev pub fault_at_stop : Option ℕ → Bool → Result (Unit {0}) Fault
+fault_at_stop None fits = Ok tt
+fault_at_stop (Some stop) fits = demand fits (Syntax stop)
+
+-- an operand has type index
+abbrev pub index_argument : List Entry → Inside → ApplyOperand → Result (Inside × Arg) Fault
+index_argument outer s o =
+    and_then (argument outer 1 s o.name) (λ x. and_then (demand (is_elem x.1.1 IndexType) (TypeDiffers o.name.start)) (λ _. Ok (x.0, x.1.0)))
+
+-- the operands, those in brackets behind the others
+abbrev pub apply_arguments : List Entry → Inside → ApplyStep → Result (Inside × List Arg) Fault
+apply_arguments outer s a =
+    and_then (thread (index_argument outer) s a.operands) (λ x. and_then (thread (index_argument outer) x.0 (symbol_operands a.symbols)) (λ y. Ok (y.0, x.1 ++ y.1)))
+
+-- a dimension's argument with its coefficient
+abbrev pub term_on : List Arg → ℕ × ℤ → Arg × ℤ
+term_on arguments t = (get_or arguments t.0 args.Out, t.1)
+
+-- a map's result on these arguments, with one term for each dimension that it has
+abbrev pub linear : Expr → List Arg → PayloadStep
+linear e arguments = record { ty = IndexType; op = ops.Linear e.constant (map (term_on arguments) e.terms) }
+
+-- `stop` is where reading stopped, if it did so before what follows the step
+abbrev pub apply_of : List AliasShape → List Entry → Option ℕ → Inside → ApplyStep → Result (Inside × PayloadStep) Fault
+apply_of aliases outer stop s a =
+    and_then (map_with_symbols aliases a.map) (λ m. and_then (one_result (use_start a.map) (only m.results)) (λ e.
+    and_then (fault_of_map stop (fits_operands m a) (use_start a.map)) (λ _. and_then (apply_arguments outer s a) (λ r.
+    and_then (fault_at_stop stop (fits_operands m a)) (λ _. Ok (r.0, linear e r.1))))))
+
+-- ---- one of the operations
+
+abbrev pub operation_of : List AliasShape → List Entry → Option ℕ → Inside → StepOperation → Result (Inside × PayloadStep) Fault
+operation_of aliases outer stop s (operations.Constant c) = and_then (literal_of c.literal) (λ x. Ok (s, constant_step x.0 x.1))
+operation_of aliases outer stop s (operations.Binary b) = binary_of outer s b
+operation_of aliases outer stop s (operations.Compare c) = compare_of outer s c
+operation_of aliases outer stop s (operations.Select c) = select_of outer s c
+operation_of aliases outer stop s (operations.IndexCast c) = index_cast_of outer s c.conversion
+operation_of aliases outer stop s (operations.Index i) = index_of s i.dimension
+operation_of aliases outer stop s (operations.Apply a) = apply_of aliases outer stop s a
+operation_of aliases outer stop s (operations.Cast c) = cast_of outer s c.name c.conversion
 
 abbrev pub name_in : StepOperation → TokenShape
 name_in (operations.Constant c) = c.name
@@ -146,6 +211,7 @@ name_in (operations.Compare c) = c.name
 name_in (operations.Select c) = c.name
 name_in (operations.IndexCast c) = c.name
 name_in (operations.Index i) = i.name
+name_in (operations.Apply a) = a.name
 name_in (operations.Cast c) = c.name
 
 -- ---- steps
@@ -155,10 +221,16 @@ abbrev pub room : Inside → TokenShape → Result (Unit {0}) Fault
 room s t = demand (nat_lt (length s.steps) 1024) (Limit limits.PayloadSteps t.start)
 
 -- the next step, which has its name behind it
-abbrev pub step_of : List Entry → Inside → Step → Result Inside Fault
-step_of outer s t =
-    and_then (fresh_in outer s.names t.result) (λ _. and_then (room s (name_in t.operation)) (λ _. and_then (operation_of outer s t.operation) (λ r. Ok (with_step r.0 t.result.text r.1))))
+abbrev pub step_of : List AliasShape → List Entry → Option ℕ → Inside → Step → Result Inside Fault
+step_of aliases outer stop s t =
+    and_then (fresh_in outer s.names t.result) (λ _. and_then (room s (name_in t.operation)) (λ _. and_then (operation_of aliases outer stop s t.operation) (λ r. Ok (with_step r.0 t.result.text r.1))))
 
-abbrev pub steps_of : List Entry → Inside → List Step → Result Inside Fault
-steps_of outer s [] = Ok s
-steps_of outer s (t ∷ ts) = and_then (step_of outer s t) (λ n. steps_of outer n ts)
+-- reading has not stopped before a next step
+abbrev pub stop_behind : Option ℕ → List Step → Option ℕ
+stop_behind stop [] = stop
+stop_behind stop (t ∷ ts) = None
+
+-- `stop` is where reading stopped, if it did so before what follows the steps
+abbrev pub steps_of : List AliasShape → List Entry → Option ℕ → Inside → List Step → Result Inside Fault
+steps_of aliases outer stop s [] = Ok s
+steps_of aliases outer stop s (t ∷ ts) = and_then (step_of aliases outer (stop_behind stop ts) s t) (λ n. steps_of aliases outer stop n ts)

@@ -197,6 +197,7 @@ fn ids(alloc: Global, values: &[(ValueId, ElemTy)]) -> Result<List<ValueId>, Mem
 /// The payload over these inputs and this output.
 fn read_region<'a>(
     alloc: Global,
+    aliases: &Aliases,
     names: &Names<'a>,
     ins: &List<(ValueId, ElemTy)>,
     out: &ElemTy,
@@ -204,10 +205,10 @@ fn read_region<'a>(
 ) -> Result<Payload, Refused>
     requires few { length ins.now ≤ 64 }
     requires outer { IsOuter names.now }
-    ensures { Agree result (payload_of names.now (map (λ v. v.1) ins.now) out.now region.now) }
+    ensures { Agree result (payload_of aliases.now names.now (map (λ v. v.1) ins.now) out.now region.now) }
 {
     let inputs = elems(alloc, ins.as_slice())?;
-    read_payload(alloc, names, inputs, out, region)
+    read_payload(alloc, aliases, names, inputs, out, region)
 }
 
 fn generic_kind(
@@ -244,7 +245,7 @@ pub fn read_generic<'a>(
     let maps = read_maps(alloc, aliases, generic.maps.as_slice())?;
     let iterators = read_iterators(alloc, generic.iterators.as_slice())?;
     let (ins, out) = read_operands(alloc, names, &generic.operands)?;
-    let payload = read_region(alloc, names, &ins, &out.1, &generic.region)?;
+    let payload = read_region(alloc, aliases, names, &ins, &out.1, &generic.region)?;
     let ty = type_at(alloc, &generic.result_type)?;
     let kind = generic_kind(alloc, maps, iterators, &ins, out.0, payload)?;
     Ok((ty, kind))

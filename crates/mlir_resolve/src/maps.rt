@@ -2,7 +2,7 @@
 
 ghost use Rattle.std.specs.Prelude.{◌≡◌, ◌∷◌, ◌++◌, [], None, false, IfOk, OnOk, option_copied};
 ghost use Rattle.mlir_lex.specs.Chain.{Agree};
-ghost use Rattle.mlir_resolve.specs.Maps.{tokens_of, map_or_fault, written_map, is_mark, symbols_behind, has_symbols, symbols_in, aliased, alias_in, alias_map, map_of};
+ghost use Rattle.mlir_resolve.specs.Maps.{tokens_of, map_or_fault, written_map, is_mark, symbols_behind, has_symbols, symbols_in, aliased, AreMaps, alias_in, alias_map, map_of, alias_map_with_symbols, map_with_symbols, use_start};
 ghost use Rattle.text_format.specs.declared.front.Kind.TheVariants.{Mark};
 ghost use Rattle.text_format.specs.Classes.{is_kind};
 ghost use Rattle.affine_text.specs.Grammar.{MapTree, map_tokens};
@@ -29,6 +29,7 @@ pub struct Alias<'a> {
 }
 
 impl<'a> Model for Alias<'a> {
+    ghost use Rattle.affine_maps.specs.Map.{IsMap};
     ghost use Rattle.mlir_resolve.specs.Maps.{AliasShape, alias_code};
 
     ghost Value = { AliasShape };
@@ -36,6 +37,8 @@ impl<'a> Model for Alias<'a> {
     ghost coded = { alias_code };
 
     ghost view = { λ a. record { name = a.name.now; map = a.map; symbols = a.symbols } };
+
+    ghost invariant = { λ a. IsMap a.map };
 }
 
 /// The aliases of a file, in order.
@@ -51,7 +54,7 @@ impl<'a> Model for Aliases<'a> {
     ghost use Rattle.std.specs.HashMap.{get_by};
     ghost use Rattle.std.specs.Coded.{coded_list};
     ghost use Rattle.mlir_resolve.specs.Names.{place};
-    ghost use Rattle.mlir_resolve.specs.Maps.{AliasShape, alias_code, names_of};
+    ghost use Rattle.mlir_resolve.specs.Maps.{AliasShape, alias_code, names_of, AreMaps};
 
     ghost Value = { List AliasShape };
 
@@ -59,7 +62,7 @@ impl<'a> Model for Aliases<'a> {
 
     ghost view = { λ s. s.entries.items };
 
-    ghost invariant = { λ s. (q : List ℕ) → get_by (λ k. bytes_eq q k.now) s.index ≡ place 0 (names_of s.entries.items) q };
+    ghost invariant = { λ s. ((q : List ℕ) → get_by (λ k. bytes_eq q k.now) s.index ≡ place 0 (names_of s.entries.items) q) × AreMaps s.entries.items };
 }
 
 impl<'a> Aliases<'a> {
@@ -80,6 +83,13 @@ impl<'a> Aliases<'a> {
             Some(at) => Some(&self.entries[*at]),
             None => None,
         }
+    }
+
+    /// Each map keeps the rule on maps.
+    pub fn are_maps(&self)
+        ensures { AreMaps self.now }
+    {
+        let _entries = &self.entries;
     }
 
     /// Appends an alias of a new name.
@@ -236,20 +246,67 @@ fn read_alias_map(alloc: Global, at: u32, alias: Option<&Alias>) -> Result<Affin
     }
 }
 
-/// A map that is written where it is used, which has no symbols.
-fn read_written_map(alloc: Global, written: &WrittenMap) -> Result<AffineMap, Refused>
-    ensures { Agree result (written_map false written.now) }
+/// A map that is written where it is used, with symbols where they are allowed.
+fn read_written_map(
+    alloc: Global,
+    symbols: bool,
+    written: &WrittenMap,
+) -> Result<AffineMap, Refused>
+    ensures { Agree result (written_map symbols written.now) }
 {
     let tokens = tokens_of(alloc, written)?;
-    read_tokens(alloc, false, tokens.as_slice())
+    read_tokens(alloc, symbols, tokens.as_slice())
 }
 
-/// The map of an alias in scope, or a written one.
+/// The map of an alias in scope, or a written one. It has no symbols.
 pub fn read_map(alloc: Global, aliases: &Aliases, used: &MapUse) -> Result<AffineMap, Refused>
     ensures { Agree result (map_of aliases.now used.now) }
 {
     match used {
         MapUse::Alias(name) => read_alias_map(alloc, name.start(), aliases.find(name.text())),
-        MapUse::Written(written) => read_written_map(alloc, written),
+        MapUse::Written(written) => read_written_map(alloc, false, written),
+    }
+}
+
+/// The map of an alias that is used where maps may have symbols.
+fn read_alias_map_with_symbols(
+    alloc: Global,
+    at: u32,
+    alias: Option<&Alias>,
+) -> Result<AffineMap, Refused>
+    ensures { Agree result (alias_map_with_symbols at (option_copied alias.entry)) }
+{
+    match alias {
+        None => Err(Refused::At(Fault::UnknownName(at))),
+        Some(alias) => {
+            let map = copy_map(alloc, &alias.map)?;
+            Ok(map)
+        }
+    }
+}
+
+/// The map of an alias in scope, or a written one. Its symbols are its last dimensions.
+pub fn read_map_with_symbols(
+    alloc: Global,
+    aliases: &Aliases,
+    used: &MapUse,
+) -> Result<AffineMap, Refused>
+    ensures { Agree result (map_with_symbols aliases.now used.now) }
+{
+    match used {
+        MapUse::Alias(name) => {
+            read_alias_map_with_symbols(alloc, name.start(), aliases.find(name.text()))
+        }
+        MapUse::Written(written) => read_written_map(alloc, true, written),
+    }
+}
+
+/// Where a use begins.
+pub fn use_start(used: &MapUse) -> u32
+    ensures { result ≡ use_start used.now }
+{
+    match used {
+        MapUse::Alias(name) => name.start(),
+        MapUse::Written(written) => written.keyword.start(),
     }
 }

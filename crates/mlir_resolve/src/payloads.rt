@@ -3,8 +3,9 @@
 ghost use Rattle.std.specs.Prelude.{◌≡◌, ◌≤◌, length, IfOk};
 ghost use Rattle.mlir_lex.specs.Chain.{Agree, Leaves, Becomes};
 ghost use Rattle.mlir_resolve.specs.Scope.{IsOuter};
-ghost use Rattle.mlir_resolve.specs.Payload.{locals_of, arg_of, more_args, block_args, yield_of, parts_of, payload_of};
+ghost use Rattle.mlir_resolve.specs.Payload.{locals_of, arg_of, more_args, block_args, yield_of, stop_before_yield, parts_of, payload_of};
 
+use crate::maps::Aliases;
 use crate::names::{Inside, Meaning, Names};
 use crate::steps::{argument, fresh_in, read_steps};
 use crate::typing::same_elem;
@@ -107,16 +108,28 @@ fn read_yield<'a>(
     Ok(yielded)
 }
 
+/// Where reading stopped, if it did so before the yield.
+fn stop_before_yield(region: &Region) -> Option<u32>
+    ensures { result ≡ stop_before_yield region.now }
+{
+    if region.yield_name.start() < region.yielded.start() {
+        None
+    } else {
+        Some(region.yield_name.start())
+    }
+}
+
 /// The parts of a payload. Its names are in scope inside it alone.
 fn read_parts<'a>(
     alloc: Global,
+    aliases: &Aliases,
     outer: &Names<'a>,
     ins: &[ElemTy],
     out: &ElemTy,
     region: &Region<'a>,
 ) -> Result<(List<PayloadStep>, Arg), Refused>
     requires few { length ins.now ≤ 64 }
-    ensures { Agree result (parts_of outer.now ins.now out.now region.now) }
+    ensures { Agree result (parts_of aliases.now outer.now ins.now out.now region.now) }
 {
     let wanted = locals(alloc, ins, out)?;
     let mut inside = Inside {
@@ -124,7 +137,15 @@ fn read_parts<'a>(
         steps: List::new(alloc),
     };
     read_args(outer, &mut inside.names, wanted.as_slice(), &region.args)?;
-    read_steps(outer, &mut inside, region.steps.as_slice())?;
+    let stop = stop_before_yield(region);
+    read_steps(
+        alloc,
+        aliases,
+        outer,
+        stop,
+        &mut inside,
+        region.steps.as_slice(),
+    )?;
     let yielded = read_yield(outer, out, &mut inside, region)?;
     Ok((inside.steps, yielded))
 }
@@ -132,6 +153,7 @@ fn read_parts<'a>(
 /// A payload over inputs and an output of these element types.
 pub fn read_payload<'a>(
     alloc: Global,
+    aliases: &Aliases,
     outer: &Names<'a>,
     ins: List<ElemTy>,
     out: &ElemTy,
@@ -139,9 +161,10 @@ pub fn read_payload<'a>(
 ) -> Result<Payload, Refused>
     requires few { length ins ≤ 64 }
     requires outer { IsOuter outer.now }
-    ensures { Agree result (payload_of outer.now ins out.now region.now) }
+    ensures { Agree result (payload_of aliases.now outer.now ins out.now region.now) }
 {
-    let (steps, yielded) = read_parts(alloc, outer, ins.as_slice(), out, region)?;
+    aliases.are_maps();
+    let (steps, yielded) = read_parts(alloc, aliases, outer, ins.as_slice(), out, region)?;
     match payload(ins, *out, steps, yielded) {
         Some(payload) => Ok(payload),
         None => unreachable!(),

@@ -1,23 +1,30 @@
 //! The steps of payloads.
 
-ghost use Rattle.std.specs.Prelude.{◌≡◌, ◌<◌, ◌≤◌, ◌+◌, None, Some, length, OnOk, OnErr};
+ghost use Rattle.std.specs.Prelude.{◌≡◌, ◌<◌, ◌≤◌, ◌+◌, ◌++◌, None, Some, length, true, OnOk, OnErr, IfOk, option_copied};
+ghost use Rattle.affine_maps.specs.Map.{terms_fit};
 ghost use Rattle.payload_ops.specs.Payload.{is_elem, is_narrower, is_cast};
 ghost use Rattle.payload_ops.specs.declared.kinds.ElemTy.TheVariants.{Int};
 ghost use Rattle.mlir_resolve.specs.declared.names.Inside.{Inside as Insider};
 ghost use Rattle.mlir_resolve.specs.declared.names.Meaning.TheVariants.{Constant};
-ghost use Rattle.mlir_lex.specs.Chain.{Agree, Leaves, Becomes};
+ghost use Rattle.mlir_lex.specs.Chain.{Agree, Leaves, Becomes, thread};
 ghost use Rattle.mlir_resolve.specs.Names.{find};
-ghost use Rattle.mlir_resolve.specs.Steps.{fresh_in, with_step, constant_step, brought, argument, binary_of, compare_of, select_of, converted, is_integer, changes_width, cast_op, cast_of, index_cast_of, index_of, operation_of, name_in, room, step_of, steps_of};
+ghost use Rattle.mlir_resolve.specs.Steps.{fresh_in, with_step, constant_step, brought, argument, binary_of, compare_of, select_of, converted, is_integer, changes_width, cast_op, cast_of, index_cast_of, index_of, symbol_operands, fits_operands, only, fault_of_map, fault_at_stop, index_argument, apply_arguments, term_on, linear, apply_of, operation_of, name_in, room, step_of, stop_behind, steps_of};
 
 use crate::literals::{digits_value, elem_at, one_bit, read_literal};
+use crate::maps::{Aliases, read_map_with_symbols, use_start};
 use crate::names::{Inside, Meaning, Names};
 use crate::typing::same_elem;
 use crate::values::fresh;
 use crate::words::{Cast, binary_named, cast_named, predicate_named};
+use affine_maps::{AffineMap, Expr};
 use mlir_ir::Which;
 use mlir_lex::{Fault, Refused};
-use mlir_syntax::{BinaryStep, CompareStep, Conversion, SelectStep, Step, StepOperation};
-use payload_ops::{Arg, ElemTy, Memory, PayloadStep, StepOp};
+use mlir_syntax::{
+    ApplyOperand, ApplyStep, ApplySymbols, BinaryStep, CompareStep, Conversion, SelectStep, Step,
+    StepOperation,
+};
+use payload_ops::{Arg, ElemTy, List, Memory, PayloadStep, StepOp};
+use std::alloc::Global;
 use text_format::Token;
 
 /// No name of this text is in scope, in the function or in the payload.
@@ -289,13 +296,178 @@ fn read_index(dimension: &Token) -> Result<PayloadStep, Refused>
     }
 }
 
-fn read_operation<'a>(
+/// The operands in brackets.
+fn symbol_operands<'b, 'a>(symbols: &'b Option<ApplySymbols<'a>>) -> &'b [ApplyOperand<'a>]
+    ensures { result.now ≡ symbol_operands symbols.now }
+{
+    match symbols {
+        None => &[],
+        Some(brackets) => brackets.operands.as_slice(),
+    }
+}
+
+/// Whether the map has a dimension for each operand.
+fn fits_operands(map: &AffineMap, apply: &ApplyStep) -> bool
+    ensures { result ≡ fits_operands map.now apply.now }
+{
+    let symbols = symbol_operands(&apply.symbols);
+    map.dims() as u128 == apply.operands.len() as u128 + symbols.len() as u128
+}
+
+fn only(results: &[Expr]) -> Option<&Expr>
+    ensures { option_copied result ≡ only results.now }
+{
+    match results {
+        [result] => Some(result),
+        _ => None,
+    }
+}
+
+/// A wrong number of operands, where they have ended.
+fn fault_of_map(stop: Option<u32>, fits: bool, at: u32) -> Result<(), Refused>
+    ensures { Agree result (fault_of_map stop fits at) }
+{
+    if stop.is_none() && !fits {
+        return Err(Refused::At(Fault::Unsupported(at)));
+    }
+    Ok(())
+}
+
+/// A wrong number of operands, where reading stopped and more may have been meant.
+fn fault_at_stop(stop: Option<u32>, fits: bool) -> Result<(), Refused>
+    ensures { Agree result (fault_at_stop stop fits) }
+{
+    match stop {
+        Some(at) if !fits => Err(Refused::At(Fault::Syntax(at))),
+        _ => Ok(()),
+    }
+}
+
+/// An operand has type `index`.
+fn read_index_argument<'a>(
     outer: &Names<'a>,
+    inside: &mut Inside<'a>,
+    operand: &ApplyOperand<'a>,
+) -> Result<Arg, Refused>
+    requires few { length inside.old.steps < 1024 }
+    ensures value { Leaves inside.new result (index_argument outer.now inside.old operand.now) }
+    ensures few { OnOk result (length inside.new.steps < 1024) }
+{
+    let (arg, elem) = argument(outer, inside, 1, &operand.name)?;
+    match elem {
+        ElemTy::Index => Ok(arg),
+        ElemTy::Int(_) => Err(Refused::At(Fault::TypeDiffers(operand.name.start()))),
+    }
+}
+
+/// Operands of type `index`, in order.
+fn read_index_arguments<'a>(
+    alloc: Global,
+    outer: &Names<'a>,
+    inside: &mut Inside<'a>,
+    operands: &[ApplyOperand<'a>],
+) -> Result<List<Arg>, Refused>
+    requires few { length inside.old.steps < 1024 }
+    ensures value { Leaves inside.new result (thread (index_argument outer.now) inside.old operands.now) }
+    ensures few { OnOk result (length inside.new.steps < 1024) }
+{
+    let mut found = List::new(alloc);
+    for operand in operands {
+        let arg = read_index_argument(outer, inside, operand)?;
+        found.push(arg)?;
+    }
+    Ok(found)
+}
+
+fn joined(first: List<Arg>, more: &[Arg]) -> Result<List<Arg>, Memory>
+    ensures { IfOk result (λ l. l ≡ first ++ more.now) }
+{
+    let mut all = first;
+    for arg in more {
+        all.push(*arg)?;
+    }
+    Ok(all)
+}
+
+/// The operands, those in brackets behind the others.
+fn read_apply_arguments<'a>(
+    alloc: Global,
+    outer: &Names<'a>,
+    inside: &mut Inside<'a>,
+    apply: &ApplyStep<'a>,
+) -> Result<List<Arg>, Refused>
+    requires few { length inside.old.steps < 1024 }
+    ensures value { Leaves inside.new result (apply_arguments outer.now inside.old apply.now) }
+    ensures few { OnOk result (length inside.new.steps < 1024) }
+{
+    let first = read_index_arguments(alloc, outer, inside, apply.operands.as_slice())?;
+    let symbols = symbol_operands(&apply.symbols);
+    let more = read_index_arguments(alloc, outer, inside, symbols)?;
+    let all = joined(first, more.as_slice())?;
+    Ok(all)
+}
+
+/// A dimension's argument with its coefficient.
+fn term_on(arguments: &[Arg], term: &(u32, i64)) -> (Arg, i64)
+    requires { term.now.0 < length arguments.now }
+    ensures { result ≡ term_on arguments.now term.now }
+{
+    (arguments[term.0 as usize], term.1)
+}
+
+/// A map's result on these arguments.
+fn linear(alloc: Global, value: &Expr, arguments: &[Arg]) -> Result<PayloadStep, Memory>
+    requires { terms_fit (length arguments.now) value.now.terms 0 ≡ true }
+    ensures { IfOk result (λ p. p ≡ linear value.now arguments.now) }
+{
+    let mut terms = List::new(alloc);
+    for term in value.terms.as_slice() {
+        terms.push(term_on(arguments, term))?;
+    }
+    Ok(PayloadStep {
+        ty: ElemTy::Index,
+        op: StepOp::Linear {
+            constant: value.constant,
+            terms,
+        },
+    })
+}
+
+fn read_apply<'a>(
+    alloc: Global,
+    aliases: &Aliases,
+    outer: &Names<'a>,
+    stop: Option<u32>,
+    inside: &mut Inside<'a>,
+    apply: &ApplyStep<'a>,
+) -> Result<PayloadStep, Refused>
+    requires few { length inside.old.steps < 1024 }
+    ensures value { Leaves inside.new result (apply_of aliases.now outer.now stop inside.old apply.now) }
+    ensures few { OnOk result (length inside.new.steps < 1024) }
+{
+    let map = read_map_with_symbols(alloc, aliases, &apply.map)?;
+    let at = use_start(&apply.map);
+    let Some(value) = only(map.results().as_slice()) else {
+        return Err(Refused::At(Fault::Unsupported(at)));
+    };
+    let fits = fits_operands(&map, apply);
+    fault_of_map(stop, fits, at)?;
+    let arguments = read_apply_arguments(alloc, outer, inside, apply)?;
+    fault_at_stop(stop, fits)?;
+    let step = linear(alloc, value, arguments.as_slice())?;
+    Ok(step)
+}
+
+fn read_operation<'a>(
+    alloc: Global,
+    aliases: &Aliases,
+    outer: &Names<'a>,
+    stop: Option<u32>,
     inside: &mut Inside<'a>,
     operation: &StepOperation<'a>,
 ) -> Result<PayloadStep, Refused>
     requires few { length inside.old.steps < 1024 }
-    ensures value { Leaves inside.new result (operation_of outer.now inside.old operation.now) }
+    ensures value { Leaves inside.new result (operation_of aliases.now outer.now stop inside.old operation.now) }
     ensures few { OnOk result (length inside.new.steps < 1024) }
 {
     match operation {
@@ -311,6 +483,7 @@ fn read_operation<'a>(
         StepOperation::Select(select) => read_select(outer, inside, select),
         StepOperation::IndexCast(cast) => read_index_cast(outer, inside, &cast.conversion),
         StepOperation::Index(index) => read_index(&index.dimension),
+        StepOperation::Apply(apply) => read_apply(alloc, aliases, outer, stop, inside, apply),
         StepOperation::Cast(cast) => read_cast(outer, inside, &cast.name, &cast.conversion),
     }
 }
@@ -325,6 +498,7 @@ fn name_in<'b, 'a>(operation: &'b StepOperation<'a>) -> &'b Token<'a>
         StepOperation::Select(select) => &select.name,
         StepOperation::IndexCast(cast) => &cast.name,
         StepOperation::Index(index) => &index.name,
+        StepOperation::Apply(apply) => &apply.name,
         StepOperation::Cast(cast) => &cast.name,
     }
 }
@@ -342,29 +516,51 @@ fn room(inside: &Inside, token: &Token) -> Result<(), Refused>
 }
 
 /// The next step, which is defined behind it.
-fn read_step<'a>(outer: &Names<'a>, inside: &mut Inside<'a>, step: &Step<'a>) -> Result<(), Refused>
-    ensures value { Becomes inside.new result (step_of outer.now inside.old step.now) }
+fn read_step<'a>(
+    alloc: Global,
+    aliases: &Aliases,
+    outer: &Names<'a>,
+    stop: Option<u32>,
+    inside: &mut Inside<'a>,
+    step: &Step<'a>,
+) -> Result<(), Refused>
+    ensures value { Becomes inside.new result (step_of aliases.now outer.now stop inside.old step.now) }
     ensures few { OnOk result (length inside.new.steps ≤ 1024) }
 {
     fresh_in(outer, &inside.names, &step.result)?;
     room(inside, name_in(&step.operation))?;
-    let one = read_operation(outer, inside, &step.operation)?;
+    let one = read_operation(alloc, aliases, outer, stop, inside, &step.operation)?;
     add_step(inside, &step.result, one)?;
     Ok(())
 }
 
-/// The steps of a payload, each of which is defined behind it.
+/// Reading has not stopped before a next step.
+fn stop_behind(stop: Option<u32>, rest: &[Step]) -> Option<u32>
+    ensures { result ≡ stop_behind stop rest.now }
+{
+    match rest {
+        [] => stop,
+        _ => None,
+    }
+}
+
+/// The steps of a payload, each of which is defined behind it. `stop` is where reading stopped, if it did so before the yield.
 pub fn read_steps<'a>(
+    alloc: Global,
+    aliases: &Aliases,
     outer: &Names<'a>,
+    stop: Option<u32>,
     inside: &mut Inside<'a>,
     steps: &[Step<'a>],
 ) -> Result<(), Refused>
     requires few { length inside.old.steps ≤ 1024 }
-    ensures value { Becomes inside.new result (steps_of outer.now inside.old steps.now) }
+    ensures value { Becomes inside.new result (steps_of aliases.now outer.now stop inside.old steps.now) }
     ensures few { OnOk result (length inside.new.steps ≤ 1024) }
 {
-    for step in steps {
-        read_step(outer, inside, step)?;
+    let mut left = steps;
+    while let [step, rest @ ..] = left {
+        read_step(alloc, aliases, outer, stop_behind(stop, rest), inside, step)?;
+        left = rest;
     }
     Ok(())
 }

@@ -22,7 +22,7 @@ use Rattle.mlir_lex.specs.Chain.{and_then}
 use Rattle.mlir_read.specs.declared.files.FileScope.{FileScope}
 use Rattle.mlir_resolve.specs.Maps.{AliasShape, aliased, alias_map, map_of}
 use Rattle.mlir_read.specs.Resolve.{alias_of, joined, items_of}
-use Rattle.mlir_print.specs.Maps.{alias_line_at, alias_lines_at, alias_text, alias_number, use_at, with_map, with_maps, with_ops, with_funcs, maps_used}
+use Rattle.mlir_print.specs.Maps.{alias_line_at, alias_lines_at, alias_text, alias_number, alias_of as text_of_alias, use_at, with_map, with_maps, with_ops, with_funcs, maps_used}
 use Rattle.text_format.specs.Writers.{Writer, each_of, made}
 use Rattle.mlir_roundtrip.specs.Maps.{IsPrintableMap, ArePrintableMaps, is_text_of, HasAlias, HaveAliases, OpsHaveAliases, FuncsHaveAliases, row, rows, with_aliases}
 use Rattle.mlir_roundtrip.proofs.Maps.{written_found, no_symbols}
@@ -234,12 +234,21 @@ found_row p k (x ∷ al) h a few = by (p x) refl (λ (g : list_any p al ≡ true
         let z : k + (1 + position_or_len p al) ≡ k + 1 + position_or_len p al = omega arith in
         record { x = r.x; found = rw (e, z, other_name k (k + 1 + position_or_len p al) (omega arith) (omega (arith, b, few))) r.found; passes = r.passes; printable = r.printable }
 
--- a use of a map stands for that map
-pub use_found : (al : List MapShape) (m : MapShape) → HasAlias al m → ArePrintableMaps al → IsPrintableMap m → length al < 2 ^ 64 → (at : ℕ) → map_of (rows 0 al) ((use_at al m).tree at) ≡ Ok m
-use_found al m h a p few at =
+-- the alias that stands for a map
+abbrev pub MapRead : List AliasShape → List MapShape → MapShape → Type 0
+MapRead alias al m = (n : ℕ) × (aliased alias (text_of_alias al m) ≡ Some (row n m))
+
+pub alias_found : (al : List MapShape) (m : MapShape) → HasAlias al m → ArePrintableMaps al → IsPrintableMap m → length al < 2 ^ 64 → MapRead (rows 0 al) al m
+alias_found al m h a p few =
     let r = found_row (is_text_of m) 0 al h a (omega arith) in
-    let z : alias_number al m ≡ 0 + position_or_len (is_text_of m) al = first_is (is_text_of m) al h ∙ zero_first (position_or_len (is_text_of m) al) in
-    ap (λ (n : ℕ). alias_map at (aliased (rows 0 al) (alias_text n))) z ∙ ap (alias_map at) r.found ∙ ap (λ (x : MapShape). Ok x) (sym (one_map m r.x p r.printable ((bytes_eq-Decides (text_of_map m) (text_of_map r.x)).0 r.passes)))
+    let z : alias_number al m ≡ 0 + position_or_len (is_text_of m) al = first_is (is_text_of m) al h ∙ zero_first (position_or_len (is_text_of m) al) in (
+      0 + position_or_len (is_text_of m) al,
+      ap (λ (n : ℕ). aliased (rows 0 al) (alias_text n)) z ∙ r.found ∙ ap (λ (x : MapShape). Some (row (0 + position_or_len (is_text_of m) al) x)) (sym (one_map m r.x p r.printable ((bytes_eq-Decides (text_of_map m) (text_of_map r.x)).0 r.passes))),
+    )
   where
     zero_first : (n : ℕ) → n ≡ 0 + n
     zero_first n = omega arith
+
+-- a use of a map stands for that map
+pub use_found : (al : List MapShape) (m : MapShape) → HasAlias al m → ArePrintableMaps al → IsPrintableMap m → length al < 2 ^ 64 → (at : ℕ) → map_of (rows 0 al) ((use_at al m).tree at) ≡ Ok m
+use_found al m h a p few at = ap (alias_map at) (alias_found al m h a p few).1

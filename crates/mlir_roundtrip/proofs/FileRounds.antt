@@ -47,8 +47,8 @@ use Rattle.mlir_roundtrip.specs.Maps.{ArePrintableMaps, FuncsHaveAliases, rows, 
 use Rattle.mlir_roundtrip.proofs.Aliases.{lines_found}
 use Rattle.mlir_roundtrip.proofs.ModuleMaps.{FuncsPrintable, aliases_are}
 use Rattle.mlir_roundtrip.proofs.Readable.{readable}
-use Rattle.mlir_roundtrip.proofs.Regions.{Laid, each_laid, all_last, canon_more}
-use Rattle.mlir_roundtrip.proofs.Rounds.{Agrees, Standing, known, typed_found, id_found, scope, then_is, commas_laid, agrees_more, by_results}
+use Rattle.mlir_roundtrip.proofs.Regions.{Laid, each_laid, commas_laid, all_last, canon_more}
+use Rattle.mlir_roundtrip.proofs.Rounds.{Agrees, Standing, known, typed_found, id_found, scope, then_is, agrees_more, by_results}
 use Rattle.mlir_roundtrip.proofs.MapUses.{AllRead, all_read}
 use Rattle.mlir_roundtrip.proofs.Usable.{usable}
 use Rattle.script_read.specs.declared.script.Script.{Script}
@@ -253,7 +253,7 @@ function_found : (s : FileScope) (al : List MapShape) (f : FuncShape) → AllRea
 function_found s al f ms h le new at =
     let x = (function_at al f).tree at in
     let first : s.values + 0 ≡ s.values = omega arith in
-    let ps = params_found s.values nothing f.params [] x.params s.ops (record { agrees = λ v y e. absurd (cc e); canon = tt }) refl refl refl (omega (arith, h.few_params)) h.params (commas_laid s.values (params_at nothing f.params) _) in
+    let ps = params_found s.values nothing f.params [] x.params s.ops (record { agrees = λ v y e. absurd (cc e); canon = tt }) refl refl refl (omega (arith, h.few_params)) h.params (commas_laid (params_at nothing f.params) _) in
     let params : params_of (opened s) ((function_at al f).tree at).params ≡ Ok (scope s.values (names_in f) ps.0 s.ops, results_renumbered s.values f.params) =
     ap (λ (b : ℕ). params_of (record { env = []; values = b; ops = s.ops }) ((function_at al f).tree at).params) (sym first) ∙ ps.1 ∙ ap (λ (b : ℕ). Ok (scope s.values (names_in f) ps.0 s.ops, results_renumbered b f.params)) first in
     let results : (p : ℕ) × (x.results ≡ (results_at f.results).tree p) = (_, refl) in

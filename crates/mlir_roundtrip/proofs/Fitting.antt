@@ -145,12 +145,12 @@ kind_fit al n k ty (kinds.Generic maps its ins out [] p) lt b f h =
     let i = inner_few n.rows ty (kinds.Generic maps its ins out [] p) h in
     let gs = subst (λ (es : List ElemTy). AllByRecursion IsWrittenElem es) (sym h.ins_typed) (elems_written n.rows f ins h.ins_defined) in
     let go = subst (λ e. IsWrittenElem e) (sym h.out_typed) (elem_written n.rows f out h.output.is_defined) in
-    let region = region_fit n.args (n.results + 1) p (omega (arith, i.0)) (omega (arith, i.1)) gs go h.payload h.steps in (
+    let region = region_fit al n.args (n.results + 1) p (omega (arith, i.0)) (omega (arith, i.1)) gs go h.payload h.steps in (
       refl,
       both_fit (commas (map (use_at al) maps)).pieces _ (commas_fit (map (use_at al) maps) (uses_fit al maps))
           (both_fit (commas (map iterator_at its)).pieces _ (commas_fit (map iterator_at its) (iterators_fit its))
           (both_fit (operands_at n.rows ins out).pieces _ (operands_fit n.rows f ins out h.ins_defined h.output)
-          (both_fit (region_at n.args (n.results + 1) p).pieces _ region (row_shaped ty h.result, tt)))),
+          (both_fit (region_at al n.args (n.results + 1) p).pieces _ region (row_shaped ty h.result, tt)))),
     )
 kind_fit al n k ty (kinds.Fill v out) lt b f h = (refl, (refl, (scalar_type n.rows f v h.value, (refl, (value_type n.rows f out h.output, (row_shaped ty h.result, tt))))))
 kind_fit al n k ty (kinds.Matmul x y out) lt b f h = (refl, (refl, (refl, (value_type n.rows f x h.left, (value_type n.rows f y h.right, (refl, (value_type n.rows f out h.output, (row_shaped ty h.result, tt))))))))

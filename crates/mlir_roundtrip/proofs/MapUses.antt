@@ -12,11 +12,11 @@ use Rattle.mlir_syntax.specs.declared.tree.maps.MapUse.TheVariants as uses
 use Rattle.mlir_syntax.specs.Maps as map_grammar
 use Rattle.mlir_lex.specs.declared.fault.Fault.TheVariants.{Unsupported}
 use Rattle.mlir_lex.specs.Chain.{demand, each}
-use Rattle.mlir_resolve.specs.Maps.{AliasShape, aliased, alias_map, map_of}
+use Rattle.mlir_resolve.specs.Maps.{AliasShape, aliased, AreMaps, alias_map, map_of}
 use Rattle.mlir_resolve.proofs.Keeps.{then_ok}
 use Rattle.mlir_print.specs.Maps.{use_at, alias_of, maps_used}
 use Rattle.mlir_roundtrip.specs.Maps.{IsPrintableMap, ArePrintableMaps, HaveAliases, OpsHaveAliases, rows}
-use Rattle.mlir_roundtrip.proofs.Aliases.{use_found}
+use Rattle.mlir_roundtrip.proofs.Aliases.{MapRead, alias_found}
 use Rattle.mlir_roundtrip.proofs.MapsRead.{written_printable}
 use Rattle.mlir_roundtrip.proofs.Short.{IsShortUse}
 use Rattle.text_format.proofs.Written.{IsWritten, AreWritten}
@@ -27,7 +27,7 @@ use Rattle.mlir_roundtrip.proofs.Regions.{Laid}
 
 -- ---- spelled, of their class, and well spaced
 
-use-w : (al : List MapShape) (m : MapShape) → IsWritten map_grammar.map_use (use_at al m)
+pub use-w : (al : List MapShape) (m : MapShape) → IsWritten map_grammar.map_use (use_at al m)
 unfolding map_grammar.map_use
 use-w al m = record { law = λ at. refl }
 
@@ -48,15 +48,20 @@ uses_apart al (m ∷ ms) a = (leaf_name classes.Alias a.0 none_opens none_apart,
 
 -- ---- read
 
--- the uses of these maps read back
+-- the aliases stand for these maps
 abbrev pub MapsRead : List AliasShape → List MapShape → List MapShape → Type 0
-MapsRead alias al ms = (us : List MapUse) → Laid (map (use_at al) ms) us → each (map_of alias) us ≡ Ok ms
+MapsRead alias al ms = AllByRecursion (MapRead alias al) ms
 
 pub maps_read : (al ms : List MapShape) → HaveAliases al ms → ArePrintableMaps al → ArePrintableMaps ms → length al < 2 ^ 64 → MapsRead (rows 0 al) al ms
-maps_read al [] h a p few [] l = refl
-maps_read al [] h a p few (u ∷ us) l = absurd l
-maps_read al (m ∷ ms) h a p few [] l = absurd l
-maps_read al (m ∷ ms) h a p few (u ∷ us) l = rw (l.0.1, use_found al m h.0 a p.0 few l.0.0, maps_read al ms h.1 a p.1 few us l.1) refl
+maps_read al [] h a p few = tt
+maps_read al (m ∷ ms) h a p few = (alias_found al m h.0 a p.0 few, maps_read al ms h.1 a p.1 few)
+
+-- so their uses read back
+pub uses_read : (alias : List AliasShape) (al ms : List MapShape) → MapsRead alias al ms → (us : List MapUse) → Laid (map (use_at al) ms) us → each (map_of alias) us ≡ Ok ms
+uses_read alias al [] r [] l = refl
+uses_read alias al [] r (u ∷ us) l = absurd l
+uses_read alias al (m ∷ ms) r [] l = absurd l
+uses_read alias al (m ∷ ms) r (u ∷ us) l = rw (l.0.1, r.0.1, uses_read alias al ms r.1 us l.1) refl
 
 -- the maps of all operations read back
 abbrev pub AllRead : List AliasShape → List MapShape → List Op → Type 0
@@ -100,6 +105,11 @@ alias_printable at (Some a) m u h =
 map_printable : (aliases : List AliasShape) (u : MapUse) (m : MapShape) → AreUsable aliases → IsShortUse u → map_of aliases u ≡ Ok m → IsPrintableMap m
 map_printable aliases (uses.Alias t) m a s h = alias_printable t.start (aliased aliases t.text) m (usable_alias aliases t.text a) h
 map_printable aliases (uses.Written w) m a s h = written_printable false w m s h
+
+-- so they are maps
+pub usable_maps : (aliases : List AliasShape) → AreUsable aliases → AreMaps aliases
+usable_maps [] h = tt
+usable_maps (a ∷ aliases) h = (h.0.is_map, usable_maps aliases h.1)
 
 -- what is read of uses of maps
 pub record MapsAre (us : List MapUse) (ms : List MapShape) : Type 0 where

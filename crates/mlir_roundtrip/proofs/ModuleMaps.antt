@@ -1,6 +1,10 @@
 -- The maps of a printable module and their aliases.
-use Rattle.std.proofs.Common.{◌<◌, ◌≤◌, ◌^◌, ◌*◌, suc, ◌+◌, Bool, true, false, cond, List, [], ◌∷◌, ◌++◌, length, arith, length-append}
-use Rattle.std.specs.List.{AllByRecursion, list_any}
+use Rattle.std.proofs.Common.{◌≡◌, ◌<◌, ◌≤◌, ◌^◌, ◌*◌, ℕ, suc, ◌+◌, Bool, true, false, cond, nat_lt, List, [], ◌∷◌, ◌++◌, length, Option, Some, None, refl, arith, length-append}
+use Rattle.std.specs.List.{AllByRecursion, list_all, list_any}
+use Rattle.std.proofs.lemmas.Bool.{and_parts, ltb-true}
+use Rattle.payload_ops.specs.declared.step.StepOp.{StepOp}
+use Rattle.payload_ops.specs.declared.step.StepOp.TheVariants as ops
+use Rattle.payload_ops.specs.declared.step.PayloadStep.{PayloadStep}
 use Rattle.affine_maps.specs.Shape.{MapShape}
 use Rattle.mlir_ir.specs.declared.tree.Ty.{Ty}
 use Rattle.mlir_ir.specs.declared.tree.ValueId.{ValueId}
@@ -11,17 +15,47 @@ use Rattle.mlir_ir.specs.Shape.{FuncShape}
 use Rattle.mlir_print.specs.Names.{Names, Row}
 use Rattle.mlir_print.specs.Operations.{next}
 use Rattle.mlir_print.specs.Canonical.{names_in}
-use Rattle.mlir_print.specs.Maps.{with_map, with_maps, with_ops, with_funcs, maps_used}
+use Rattle.mlir_print.specs.Maps.{linear_map, has_map_numbers, step_map, listed, steps_maps, with_map, with_maps, with_ops, with_funcs, maps_used}
+use Rattle.mlir_print.proofs.LinearMaps.{payload_numbers, linear_is_map}
 use Rattle.mlir_roundtrip.specs.Maps.{IsPrintableMap, ArePrintableMaps, is_text_of, FuncsHaveAliases}
 use Rattle.mlir_roundtrip.specs.Printable.{IsPrintableKind, IsPrintableLine, IsPrintableReturn, ArePrintableOps, ArePrintable, operations_in}
 use Rattle.mlir_roundtrip.proofs.Aliases.{funcs_all, funcs_have}
+use Rattle.mlir_roundtrip.proofs.Regions.{all_both}
+
+-- ---- the maps of a payload's steps
+
+listed_printable : (o : StepOp) → has_map_numbers o ≡ true → AllByRecursion IsPrintableMap (listed (step_map o))
+listed_printable (ops.Linear c ts) h = by (nat_lt (length ts) (2 ^ 32)) refl
+  where
+    by : (b : Bool) → nat_lt (length ts) (2 ^ 32) ≡ b → AllByRecursion IsPrintableMap (listed (cond b (Some (linear_map c ts)) None))
+    by true e = let lt = ltb-true (length ts) (2 ^ 32) e in (record { is_map = linear_is_map c ts h; dims = omega arith }, tt)
+    by false e = tt
+listed_printable o h = tt
+
+steps_printable : (ss : List PayloadStep) → list_all (λ (s : PayloadStep). has_map_numbers s.op) ss ≡ true → ArePrintableMaps (steps_maps ss)
+steps_printable [] h = tt
+steps_printable (s ∷ ss) h =
+    let p = and_parts (has_map_numbers s.op) (list_all (λ (s : PayloadStep). has_map_numbers s.op) ss) h in
+    all_both IsPrintableMap (listed (step_map s.op)) (steps_maps ss) (listed_printable s.op p.0) (steps_printable ss p.1)
+
+listed_few : (o : Option MapShape) → length (listed o) ≤ 1
+listed_few None = omega arith
+listed_few (Some m) = omega arith
+
+steps_few : (ss : List PayloadStep) → length (steps_maps ss) ≤ length ss
+steps_few [] = omega arith
+steps_few (s ∷ ss) =
+    let a = length-append (listed (step_map s.op)) (steps_maps ss) in
+    let b = listed_few (step_map s.op) in
+    let c = steps_few ss in
+    omega (arith, a, b, c)
 
 -- ---- the maps of operations
 
 -- the maps of an operation are printable, and few
 pub record MapsFit (k : OpKind) : Type 0 where
   pub maps : ArePrintableMaps (maps_used k)
-  pub few : length (maps_used k) ≤ 2 ^ 32
+  pub few : length (maps_used k) ≤ 2 ^ 33
 
 abbrev pub OpsMapsFit : List Op → Type 0
 OpsMapsFit os = AllByRecursion (λ o. MapsFit o.kind) os
@@ -30,7 +64,11 @@ abbrev pub FuncsMapsFit : List FuncShape → Type 0
 FuncsMapsFit fs = AllByRecursion (λ f. OpsMapsFit f.body) fs
 
 kind_maps : (rows : List Row) (ty : Ty) (k : OpKind) → IsPrintableKind rows ty k → MapsFit k
-kind_maps rows ty (kinds.Generic maps its ins out captured p) h = record { maps = h.maps_printable; few = h.few_maps }
+kind_maps rows ty (kinds.Generic maps its ins out captured p) h =
+    let few = h.few_maps in
+    let less = h.few_steps in
+    let steps = steps_few p.steps in
+    record { maps = all_both IsPrintableMap maps (steps_maps p.steps) h.maps_printable (steps_printable p.steps (payload_numbers p h.payload)); few = omega (arith, few, less, steps, length-append maps (steps_maps p.steps)) }
 kind_maps rows ty k h = record { maps = tt; few = omega arith }
 
 line_maps : (rows : List Row) (rs : List (ValueId × Ty)) (k : OpKind) → IsPrintableLine rows rs k → MapsFit k
@@ -80,7 +118,7 @@ maps_few ms (u ∷ us) =
     let h = maps_few (with_map ms u) us in
     omega (arith, a, h)
 
-ops_few : (ms : List MapShape) (os : List Op) → OpsMapsFit os → length (with_ops ms os) ≤ length ms + 2 ^ 32 * length os
+ops_few : (ms : List MapShape) (os : List Op) → OpsMapsFit os → length (with_ops ms os) ≤ length ms + 2 ^ 33 * length os
 ops_few ms [] h = omega arith
 ops_few ms (o ∷ os) h =
     let a = maps_few ms (maps_used o.kind) in
@@ -88,7 +126,7 @@ ops_few ms (o ∷ os) h =
     let c = ops_few (with_maps ms (maps_used o.kind)) os h.1 in
     omega (arith, a, b, c)
 
-funcs_few : (ms : List MapShape) (fs : List FuncShape) → FuncsMapsFit fs → length (with_funcs ms fs) ≤ length ms + 2 ^ 32 * operations_in fs
+funcs_few : (ms : List MapShape) (fs : List FuncShape) → FuncsMapsFit fs → length (with_funcs ms fs) ≤ length ms + 2 ^ 33 * operations_in fs
 funcs_few ms [] h = omega arith
 funcs_few ms (f ∷ fs) h =
     let a = ops_few ms f.body h.0 in

@@ -62,8 +62,8 @@ use Rattle.mlir_roundtrip.proofs.Typed.{tensor_typed, scalar_typed}
 use Rattle.mlir_roundtrip.proofs.Values.{Reads, value_row, row_defined, row_number, row_elem, row_type}
 use Rattle.mlir_roundtrip.proofs.StepsRead.{parts_are}
 use Rattle.mlir_roundtrip.proofs.Symbols.{AreLeaves, leaves_left, leaves_right}
-use Rattle.mlir_roundtrip.proofs.MapUses.{AreUsable, maps_are}
-use Rattle.mlir_roundtrip.proofs.Short.{AreShortUses, IsShortOperation}
+use Rattle.mlir_roundtrip.proofs.MapUses.{AreUsable, usable_maps, maps_are}
+use Rattle.mlir_roundtrip.proofs.Short.{IsShortStep, IsShortGeneric, IsShortOperation}
 use Rattle.mlir_roundtrip.proofs.ConstantsRead.{IsConstant, constant_is, constant_kind}
 
 -- ---- the tokens of types
@@ -288,12 +288,12 @@ module _ (base : ℕ) where
   abbrev whole : List ElemTy → ElemTy → List PayloadStep × Arg → PayloadShape
   whole ins out q = record { ins = ins; out = out; steps = q.0; yielded = q.1 }
 
-  payload_is : (rows : List Row) (env : List Entry) → Reads base rows env → (ins : List ElemTy) (out : ElemTy) (region : Region) (p : PayloadShape) → payload_of env ins out region ≡ Ok p → PayloadRead ins out p
-  payload_is rows env r ins out region p h =
-      let a = then_ok (parts_of env ins out region) _ p h in
-      let s = parts_are env ins out region a.0 r.outer a.1 in
+  payload_is : (rows : List Row) (env : List Entry) → Reads base rows env → (alias : List AliasShape) → AreUsable alias → (ins : List ElemTy) (out : ElemTy) (region : Region) (p : PayloadShape) → AllByRecursion IsShortStep region.steps → payload_of alias env ins out region ≡ Ok p → PayloadRead ins out p
+  payload_is rows env r alias usable ins out region p short h =
+      let a = then_ok (parts_of alias env ins out region) _ p h in
+      let s = parts_are alias env ins out region a.0 r.outer usable short a.1 in
       subst (λ (x : PayloadShape). PayloadRead ins out x) (ok_same (whole ins out a.0) p a.2)
-      (record { is_ins = refl; is_out = refl; fits = parts_fit env ins out region a.0 r.outer a.1; steps = s.0; few = s.1 })
+      (record { is_ins = refl; is_out = refl; fits = parts_fit alias env ins out region a.0 (usable_maps alias usable) r.outer a.1; steps = s.0; few = s.1 })
 
   -- ---- operations
 
@@ -302,20 +302,20 @@ module _ (base : ℕ) where
     pub printable : IsPrintableKind rows k.0 k.1
     pub number : kind_renumbered (number_in base rows) k.1 ≡ k.1
 
-  generic_is : (rows : List Row) (env : List Entry) → Reads base rows env → (alias : List AliasShape) (g : Generic) (k : Ty × OpKind) → AreUsable alias → AreShortUses g.maps → IsRanked g.operands.output.ty → generic_of alias env g ≡ Ok k → KindRead rows k
+  generic_is : (rows : List Row) (env : List Entry) → Reads base rows env → (alias : List AliasShape) (g : Generic) (k : Ty × OpKind) → AreUsable alias → IsShortGeneric g → IsRanked g.operands.output.ty → generic_of alias env g ≡ Ok k → KindRead rows k
   generic_is rows env r alias g k usable short t h =
       let a = then_ok (each (map_of alias) g.maps) _ k h in
       let i = then_ok (iterators_from 0 g.iterators) _ k a.2 in
       let b = then_ok (operands_of env g.operands) _ k i.2 in
-      let c = then_ok (payload_of env (map (λ (v : ValueId × ElemTy). v.1) b.0.0) b.0.1.1 g.region) _ k b.2 in
+      let c = then_ok (payload_of alias env (map (λ (v : ValueId × ElemTy). v.1) b.0.0) b.0.1.1 g.region) _ k b.2 in
       let d = then_ok (type_at g.result_type) _ k c.2 in
       let o = operands_are rows env r g.operands b.0 t b.1 in
-      let p = payload_is rows env r (map (λ (v : ValueId × ElemTy). v.1) b.0.0) b.0.1.1 g.region c.0 c.1 in
+      let p = payload_is rows env r alias usable (map (λ (v : ValueId × ElemTy). v.1) b.0.0) b.0.1.1 g.region c.0 short.steps c.1 in
       let len = length_map (λ (v : ValueId × ElemTy). v.0) b.0.0 in
       let loops = iterators_few 0 g.iterators i.0 (omega arith) i.1 in
-      let ms = maps_are alias g.maps a.0 usable short.all a.1 in
+      let ms = maps_are alias g.maps a.0 usable short.maps.all a.1 in
       let same = ms.few in
-      let few = short.few in
+      let few = short.maps.few in
       subst (λ (x : Ty × OpKind). KindRead rows x) (ok_same (d.0, generic_with a.0 i.0 b.0.0 b.0.1.0 c.0) k d.2)
       (record {
         printable = record {

@@ -1,5 +1,5 @@
 -- Each token of a payload's region is of the class that the grammar wants there.
-use Rattle.std.proofs.Common.{◌≡◌, ◌<◌, ◌^◌, ℕ, ◌+◌, suc, zero, true, List, [], ◌∷◌, ◌++◌, length, Some, refl, sym, subst, arith, append_assoc, false, ◌∙◌, ℤ, pos, negsuc, Bool, Option, nat_le}
+use Rattle.std.proofs.Common.{◌≡◌, ◌<◌, ◌^◌, ℕ, ◌+◌, suc, zero, true, List, [], ◌∷◌, ◌++◌, map, length, Some, refl, sym, subst, arith, append_assoc, false, ◌∙◌, ℤ, pos, negsuc, Bool, Option, nat_le}
 use Rattle.std.specs.List.{AllByRecursion}
 use Rattle.std.specs.Prelude.{slice_get}
 use Rattle.std.proofs.lemmas.Bool.{and_parts, leb-true}
@@ -11,6 +11,7 @@ use Rattle.payload_ops.specs.declared.step.StepOp.{StepOp}
 use Rattle.payload_ops.specs.declared.step.PayloadStep.{PayloadStep}
 use Rattle.payload_ops.specs.Shape.{PayloadShape}
 use Rattle.payload_ops.specs.Payload.{arg_type, has_type, op_fits, steps_fit, payload_fits, bits_of, is_elem, have_one_type}
+use Rattle.affine_maps.specs.Shape.{MapShape}
 use Rattle.text_format.specs.declared.class.Class.TheVariants as classes
 use Rattle.text_format.specs.declared.class.Position.TheVariants as places
 use Rattle.text_format.specs.declared.front.Kind.TheVariants.{Word}
@@ -18,8 +19,10 @@ use Rattle.text_format.specs.Pieces.{Piece}
 use Rattle.mlir_print.specs.declared.names.Given.{Given}
 use Rattle.mlir_print.specs.declared.names.Given.TheVariants.{Argument}
 use Rattle.mlir_print.specs.Names.{local_name}
-use Rattle.text_format.specs.Writers.{each_of}
-use Rattle.mlir_print.specs.Payloads.{next_args_at, block_args_at, step_at, steps_at, region_at, elem_or, type_in as arg_type_in, operation_at as step_operation_at}
+use Rattle.mlir_print.specs.Maps.{linear_map, step_map}
+use Rattle.mlir_print.proofs.LinearMaps.{has_step_map}
+use Rattle.text_format.specs.Writers.{each_of, commas}
+use Rattle.mlir_print.specs.Payloads.{next_args_at, block_args_at, apply_operand_at, apply_at, linear_if, step_at, steps_at, region_at, elem_or, type_in as arg_type_in, operation_at as step_operation_at}
 use Rattle.text_format.specs.Classes.{holds}
 use Rattle.text_format.specs.Types.{is_some, element_of}
 use Rattle.payload_ops.specs.declared.kinds.BinOp.{BinOp}
@@ -38,7 +41,7 @@ use Rattle.mlir_roundtrip.proofs.Fits.{arg_text, cast_found, mapped, narrowing_f
 use Rattle.mlir_roundtrip.proofs.Readable.{elem_some}
 use Rattle.mlir_roundtrip.proofs.Rows.{IsSmall}
 use Rattle.mlir_roundtrip.proofs.Regions.{all_last}
-use Rattle.text_format.proofs.Written.{AreFit, LeavesFit, both_fit, each_fit}
+use Rattle.text_format.proofs.Written.{AreFit, LeavesFit, both_fit, commas_fit, each_fit}
 use Rattle.mlir_roundtrip.proofs.Leaves.{IsWrittenElem, given_new}
 
 -- ---- payloads
@@ -135,21 +138,31 @@ IsFitStep type (ops.Truncate x) = is_some (element_of (type x)) ≡ true
 IsFitStep type (ops.IndexCast x) = is_some (element_of (type x)) ≡ true
 IsFitStep type o = Unit {0}
 
-step_operation_fit : (name : Arg → Given) (type : Arg → List ℕ) (e : ElemTy) (o : StepOp) → IsWrittenElem e → IsPrintableOp e o → IsFitStep type o → LeavesFit (step_operation_at name type e o).pieces
-step_operation_fit name type e (ops.Const v) h i f = (refl, literal_fits e v h)
-step_operation_fit name type e (ops.Index k) h i f = (refl, (refl, tt))
-step_operation_fit name type e (ops.Captured k) h i f = absurd i
-step_operation_fit name type e (ops.Linear c ts) h i f = absurd i
-step_operation_fit name type e (ops.Binary op x y) h i f = (binary_fits op, (refl, (refl, (h, tt))))
-step_operation_fit name type e (ops.Compare k x y) h i f = (refl, (predicate_fits k, (refl, (refl, (f, tt)))))
-step_operation_fit name type e (ops.Select c x y) h i f = (refl, (refl, (refl, (refl, (h, tt)))))
-step_operation_fit name type e (ops.SignExtend x) h i f = (cast_fits changes.SignExtend, (refl, (f, (h, tt))))
-step_operation_fit name type e (ops.ZeroExtend x) h i f = (cast_fits changes.ZeroExtend, (refl, (f, (h, tt))))
-step_operation_fit name type e (ops.Truncate x) h i f = (cast_fits changes.Truncate, (refl, (f, (h, tt))))
-step_operation_fit name type e (ops.IndexCast x) h i f = (refl, (refl, (f, (h, tt))))
+operands_fit : (name : Arg → Given) (ts : List (Arg × ℤ)) → AreFit (map (apply_operand_at name) ts)
+operands_fit name [] = tt
+operands_fit name (t ∷ ts) = ((refl, tt), operands_fit name ts)
 
-step_fit : (name : Arg → Given) (type : Arg → List ℕ) (k : ℕ) (s : PayloadStep) → IsSmall (name (StepArg k)) → IsPrintableStep s → IsFitStep type s.op → LeavesFit (step_at name type k s.ty s.op).pieces
-step_fit name type k s m i f = (given_new (name (StepArg k)) m, step_operation_fit name type s.ty s.op (type_written s.ty i.ty) i.op f)
+apply_fit : (al : List MapShape) (name : Arg → Given) (m : MapShape) (ts : List (Arg × ℤ)) → LeavesFit (apply_at al name m ts).pieces
+apply_fit al name m ts = (refl, (refl, both_fit (commas (map (apply_operand_at name) ts)).pieces _ (commas_fit (map (apply_operand_at name) ts) (operands_fit name ts)) tt))
+
+linear_fit : (al : List MapShape) (name : Arg → Given) (c : ℤ) (ts : List (Arg × ℤ)) → length ts < 2 ^ 32 → LeavesFit (linear_if al name (step_map (ops.Linear c ts)) ts).pieces
+linear_fit al name c ts few = subst (λ o. LeavesFit (linear_if al name o ts).pieces) (sym (has_step_map c ts few)) (apply_fit al name (linear_map c ts) ts)
+
+step_operation_fit : (al : List MapShape) (name : Arg → Given) (type : Arg → List ℕ) (e : ElemTy) (o : StepOp) → IsWrittenElem e → IsPrintableOp e o → IsFitStep type o → LeavesFit (step_operation_at al name type e o).pieces
+step_operation_fit al name type e (ops.Const v) h i f = (refl, literal_fits e v h)
+step_operation_fit al name type e (ops.Index k) h i f = (refl, (refl, tt))
+step_operation_fit al name type e (ops.Captured k) h i f = absurd i
+step_operation_fit al name type e (ops.Linear c ts) h i f = linear_fit al name c ts i
+step_operation_fit al name type e (ops.Binary op x y) h i f = (binary_fits op, (refl, (refl, (h, tt))))
+step_operation_fit al name type e (ops.Compare k x y) h i f = (refl, (predicate_fits k, (refl, (refl, (f, tt)))))
+step_operation_fit al name type e (ops.Select c x y) h i f = (refl, (refl, (refl, (refl, (h, tt)))))
+step_operation_fit al name type e (ops.SignExtend x) h i f = (cast_fits changes.SignExtend, (refl, (f, (h, tt))))
+step_operation_fit al name type e (ops.ZeroExtend x) h i f = (cast_fits changes.ZeroExtend, (refl, (f, (h, tt))))
+step_operation_fit al name type e (ops.Truncate x) h i f = (cast_fits changes.Truncate, (refl, (f, (h, tt))))
+step_operation_fit al name type e (ops.IndexCast x) h i f = (refl, (refl, (f, (h, tt))))
+
+step_fit : (al : List MapShape) (name : Arg → Given) (type : Arg → List ℕ) (k : ℕ) (s : PayloadStep) → IsSmall (name (StepArg k)) → IsPrintableStep s → IsFitStep type s.op → LeavesFit (step_at al name type k s.ty s.op).pieces
+step_fit al name type k s m i f = (given_new (name (StepArg k)) m, step_operation_fit al name type s.ty s.op (type_written s.ty i.ty) i.op f)
 
 -- what an argument names has a type that is written
 abbrev AreTyped : (Arg → List ℕ) → (Arg → Option ElemTy) → Type 0
@@ -171,21 +184,21 @@ fit_step type at e (ops.IndexCast x) k h = let f = cast_found (at x) e h in k x 
 abbrev types_of : List ElemTy → ElemTy → List PayloadStep → Arg → List ℕ
 types_of ins out all x = elem_or (arg_type ins out all x)
 
-steps_written : (a r : ℕ) (ins : List ElemTy) (out : ElemTy) (all ss earlier : List PayloadStep) (k : ℕ) → all ≡ earlier ++ ss → r + (k + length ss) < 2 ^ 64 → AllByRecursion IsWrittenElem ins → IsWrittenElem out → AllByRecursion (λ t. IsWrittenElem t.ty) earlier
-    → steps_fit ins out ss earlier ≡ true → AllByRecursion IsPrintableStep ss → AreFit (steps_at (local_name a (length ins) r) (types_of ins out all) k ss)
-steps_written a r ins out all [] earlier k ends s gs go ge f i = tt
-steps_written a r ins out all (t ∷ ss) earlier k ends s gs go ge f i =
+steps_written : (al : List MapShape) (a r : ℕ) (ins : List ElemTy) (out : ElemTy) (all ss earlier : List PayloadStep) (k : ℕ) → all ≡ earlier ++ ss → r + (k + length ss) < 2 ^ 64 → AllByRecursion IsWrittenElem ins → IsWrittenElem out → AllByRecursion (λ t. IsWrittenElem t.ty) earlier
+    → steps_fit ins out ss earlier ≡ true → AllByRecursion IsPrintableStep ss → AreFit (steps_at al (local_name a (length ins) r) (types_of ins out all) k ss)
+steps_written al a r ins out all [] earlier k ends s gs go ge f i = tt
+steps_written al a r ins out all (t ∷ ss) earlier k ends s gs go ge f i =
     let p = and_parts (op_fits (arg_type ins out earlier) t.ty t.op) (steps_fit ins out ss (earlier ++ t ∷ [])) f in
     let typed : AreTyped (types_of ins out all) (arg_type ins out earlier) =
     λ x u q. subst (λ (text : List ℕ). is_some (element_of text) ≡ true) (sym (arg_text ins out earlier (t ∷ ss) all x u ends q)) (arg_has IsWrittenElem ins out earlier gs go ge x u q)
     in
     let longer : all ≡ (earlier ++ t ∷ []) ++ ss = ends ∙ sym (append_assoc earlier (t ∷ []) ss) in (
-      step_fit (local_name a (length ins) r) (types_of ins out all) k t (omega arith) i.0 (fit_step (types_of ins out all) (arg_type ins out earlier) t.ty t.op typed p.0),
-      steps_written a r ins out all ss (earlier ++ t ∷ []) (k + 1) longer (omega arith) gs go (all_last (λ (u : PayloadStep). IsWrittenElem u.ty) earlier t ge (type_written t.ty i.0.ty)) p.1 i.1,
+      step_fit al (local_name a (length ins) r) (types_of ins out all) k t (omega arith) i.0 (fit_step (types_of ins out all) (arg_type ins out earlier) t.ty t.op typed p.0),
+      steps_written al a r ins out all ss (earlier ++ t ∷ []) (k + 1) longer (omega arith) gs go (all_last (λ (u : PayloadStep). IsWrittenElem u.ty) earlier t ge (type_written t.ty i.0.ty)) p.1 i.1,
     )
 
-pub region_fit : (a r : ℕ) (p : PayloadShape) → a + length p.ins < 2 ^ 64 → r + length p.steps < 2 ^ 64 → AllByRecursion IsWrittenElem p.ins → IsWrittenElem p.out → payload_fits p ≡ true → AllByRecursion IsPrintableStep p.steps → LeavesFit (region_at a r p).pieces
-region_fit a r p sa sr gs go f s =
+pub region_fit : (al : List MapShape) (a r : ℕ) (p : PayloadShape) → a + length p.ins < 2 ^ 64 → r + length p.steps < 2 ^ 64 → AllByRecursion IsWrittenElem p.ins → IsWrittenElem p.out → payload_fits p ≡ true → AllByRecursion IsPrintableStep p.steps → LeavesFit (region_at al a r p).pieces
+region_fit al a r p sa sr gs go f s =
     let q = and_parts (steps_fit p.ins p.out p.steps []) (has_type (arg_type p.ins p.out p.steps p.yielded) p.out) f in
     both_fit (block_args_at a p.ins p.out).pieces _ (block_args_fit a p.ins p.out sa gs go)
-    (both_fit (each_of (steps_at (local_name a (length p.ins) r) (arg_type_in p) 0 p.steps)).pieces _ (each_fit (steps_at (local_name a (length p.ins) r) (arg_type_in p) 0 p.steps) (steps_written a r p.ins p.out p.steps p.steps [] 0 refl (omega arith) gs go tt q.0 s)) (refl, (refl, (go, tt))))
+    (both_fit (each_of (steps_at al (local_name a (length p.ins) r) (arg_type_in p) 0 p.steps)).pieces _ (each_fit (steps_at al (local_name a (length p.ins) r) (arg_type_in p) 0 p.steps) (steps_written al a r p.ins p.out p.steps p.steps [] 0 refl (omega arith) gs go tt q.0 s)) (refl, (refl, (go, tt))))

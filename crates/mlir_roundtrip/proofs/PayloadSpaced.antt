@@ -1,6 +1,6 @@
 -- The pieces of a payload's region are well spaced.
-use Rattle.std.proofs.Common.{◌≡◌, ◌<◌, ◌^◌, ℕ, ◌+◌, suc, zero, true, List, [], ◌∷◌, ◌++◌, length, Some, refl, sym, subst, arith, codes, decimal, append_assoc, length-append, false, ◌∙◌, nat_eq, ◌≤◌, ◌-◌, ℤ, pos, negsuc, Bool, ◌&&◌, Option, nat_le, nat_lt, pow_mono, pow_pos}
-use Rattle.std.specs.List.{AllByRecursion}
+use Rattle.std.proofs.Common.{◌≡◌, ◌<◌, ◌^◌, ℕ, ◌+◌, suc, zero, true, List, [], ◌∷◌, ◌++◌, map, length, Some, refl, sym, subst, arith, codes, decimal, append_assoc, length-append, false, ◌∙◌, nat_eq, ◌≤◌, ◌-◌, ℤ, pos, negsuc, Bool, ◌&&◌, Option, nat_le, nat_lt, pow_mono, pow_pos}
+use Rattle.std.specs.List.{AllByRecursion, list_all}
 use Rattle.std.specs.Prelude.{slice_get}
 use Rattle.std.proofs.lemmas.Bool.{and_parts, ne_eqb, leb-true, ltb-true, ltb-false}
 use Rattle.std.proofs.lemmas.List.{append-nil}
@@ -13,11 +13,13 @@ use Rattle.payload_ops.specs.declared.step.Arg.{Arg}
 use Rattle.payload_ops.specs.declared.step.Arg.TheVariants.{Input, Out, Step}
 use Rattle.payload_ops.specs.declared.step.StepOp.{StepOp}
 use Rattle.payload_ops.specs.declared.step.PayloadStep.{PayloadStep}
+use Rattle.payload_ops.specs.Numbers.{is_in_range, is_coefficient}
 use Rattle.payload_ops.specs.Shape.{PayloadShape}
-use Rattle.payload_ops.specs.Payload.{arg_type, has_type, op_fits, steps_fit, payload_fits, bits_of, is_elem, is_value, have_one_type}
+use Rattle.affine_maps.specs.Shape.{MapShape}
+use Rattle.payload_ops.specs.Payload.{arg_type, has_type, term_fits, op_fits, steps_fit, payload_fits, bits_of, is_elem, is_value, have_one_type}
 use Rattle.text_format.specs.declared.class.Class.TheVariants as classes
 use Rattle.text_format.specs.declared.class.Position.TheVariants as places
-use Rattle.text_format.specs.declared.front.Kind.TheVariants.{Word, Value, Mark}
+use Rattle.text_format.specs.declared.front.Kind.TheVariants.{Word, Value, Mark, Alias}
 use Rattle.text_format.specs.declared.lexeme.Lexeme.TheVariants as lexemes
 use Rattle.text_format.specs.Lexemes.{lexeme_kind, lexeme_text}
 use Rattle.text_format.specs.Pieces.{Piece, Gap, Fixed, Leaf, Ends, bytes_of}
@@ -26,8 +28,10 @@ use Rattle.mlir_syntax.specs.declared.tree.payloads.NextArg.{NextArg}
 use Rattle.mlir_print.specs.declared.names.Given.{Given}
 use Rattle.mlir_print.specs.Types.{elem_text}
 use Rattle.mlir_print.specs.Names.{given_text, local_name}
-use Rattle.text_format.specs.Writers.{Writer, each_of}
-use Rattle.mlir_print.specs.Payloads.{block_arg_at, next_arg_at, next_args_at, block_args_at, step_at, steps_at, region_at, new_line, elem_or, type_in as arg_type_in, conversion_at, cast_at, operation_at as step_operation_at}
+use Rattle.mlir_print.specs.Maps.{linear_map, step_map, listed, steps_maps, alias_of}
+use Rattle.mlir_print.proofs.LinearMaps.{has_step_map}
+use Rattle.text_format.specs.Writers.{Writer, each_of, commas}
+use Rattle.mlir_print.specs.Payloads.{block_arg_at, next_arg_at, next_args_at, block_args_at, step_at, steps_at, region_at, new_line, elem_or, type_in as arg_type_in, conversion_at, cast_at, apply_operand_at, apply_at, linear_if, operation_at as step_operation_at}
 use Rattle.payload_ops.specs.declared.kinds.BinOp.{BinOp}
 use Rattle.payload_ops.specs.declared.kinds.BinOp.TheVariants as binaries
 use Rattle.payload_ops.specs.declared.kinds.Predicate.{Predicate}
@@ -44,8 +48,9 @@ use Rattle.text_format.specs.declared.lexeme.Lexeme.{Lexeme}
 use Rattle.mlir_roundtrip.specs.Printable.{IsPrintableOp, IsPrintableStep}
 use Rattle.mlir_roundtrip.proofs.Fits.{arg_text, cast_found, found_type, get_below, mapped, narrowing_found, one_found, widening_found}
 use Rattle.mlir_roundtrip.proofs.Rows.{IsSmall}
-use Rattle.mlir_roundtrip.proofs.Regions.{all_last}
-use Rattle.mlir_roundtrip.proofs.Placing.{AreApart, AreOpen, IsSmallElem, close_end, close_opens, close_piece, comma_opens, each_apart, elem_end, elem_name, elem_typed, given_name}
+use Rattle.mlir_roundtrip.proofs.Regions.{all_last, all_split}
+use Rattle.mlir_roundtrip.proofs.MapUses.{AreNamed}
+use Rattle.mlir_roundtrip.proofs.Placing.{AreApart, AreOpen, IsSmallElem, close_end, close_opens, close_piece, comma_opens, commas_apart, each_apart, elem_end, elem_name, elem_typed, given_name}
 
 -- ---- payloads
 
@@ -158,18 +163,18 @@ literal_apart e v t h = literal_apart_if (is_elem e (Int 1)) e v (written_small 
 -- ---- steps
 
 -- names of arguments that the payload has, and types of theirs
-abbrev IsSmallStep : (Arg → Given) → (Arg → List ℕ) → ElemTy → StepOp → Type 0
-IsSmallStep name type e (ops.Const v) = is_value e v ≡ true
-IsSmallStep name type e (ops.Index k) = k < 2 ^ 64
-IsSmallStep name type e (ops.Captured k) = ⊥
-IsSmallStep name type e (ops.Linear c ts) = ⊥
-IsSmallStep name type e (ops.Binary op x y) = IsSmall (name x) × IsSmall (name y)
-IsSmallStep name type e (ops.Compare k x y) = IsSmall (name x) × IsSmall (name y) × IsName Word (type x)
-IsSmallStep name type e (ops.Select c x y) = IsSmall (name c) × IsSmall (name x) × IsSmall (name y)
-IsSmallStep name type e (ops.SignExtend x) = IsSmall (name x) × IsName Word (type x)
-IsSmallStep name type e (ops.ZeroExtend x) = IsSmall (name x) × IsName Word (type x)
-IsSmallStep name type e (ops.Truncate x) = IsSmall (name x) × IsName Word (type x)
-IsSmallStep name type e (ops.IndexCast x) = IsSmall (name x) × IsName Word (type x)
+abbrev IsSmallStep : List MapShape → (Arg → Given) → (Arg → List ℕ) → ElemTy → StepOp → Type 0
+IsSmallStep al name type e (ops.Const v) = is_value e v ≡ true
+IsSmallStep al name type e (ops.Index k) = k < 2 ^ 64
+IsSmallStep al name type e (ops.Captured k) = ⊥
+IsSmallStep al name type e (ops.Linear c ts) = (length ts < 2 ^ 32) × IsName Alias (alias_of al (linear_map c ts)) × AllByRecursion (λ t. IsSmall (name t.0)) ts
+IsSmallStep al name type e (ops.Binary op x y) = IsSmall (name x) × IsSmall (name y)
+IsSmallStep al name type e (ops.Compare k x y) = IsSmall (name x) × IsSmall (name y) × IsName Word (type x)
+IsSmallStep al name type e (ops.Select c x y) = IsSmall (name c) × IsSmall (name x) × IsSmall (name y)
+IsSmallStep al name type e (ops.SignExtend x) = IsSmall (name x) × IsName Word (type x)
+IsSmallStep al name type e (ops.ZeroExtend x) = IsSmall (name x) × IsName Word (type x)
+IsSmallStep al name type e (ops.Truncate x) = IsSmall (name x) × IsName Word (type x)
+IsSmallStep al name type e (ops.IndexCast x) = IsSmall (name x) × IsName Word (type x)
 
 type_last : (text : List ℕ) → IsName Word text → IsApart (Fixed lexemes.Colon ∷ Gap (codes " ") ∷ Leaf classes.ElementType Word text ∷ [])
 type_last text n = fixed_closed lexemes.Colon refl (space (leaf_name classes.ElementType n none_opens none_apart))
@@ -192,26 +197,38 @@ cast_apart name type k x e s n t = leaf_name (classes.CastName places.PayloadSte
 step_word : (l : Lexeme) {ps : List Piece} → is_minus l ≡ false → IsApart ps → IsApart (Leaf (classes.Name places.PayloadStep l) (lexeme_kind l) (lexeme_text l) ∷ Gap (codes " ") ∷ ps)
 step_word l e h = leaf_name (classes.Name places.PayloadStep l) (lexeme_name l e) space_opens (space h)
 
-step_operation_apart : (name : Arg → Given) (type : Arg → List ℕ) (e : ElemTy) (o : StepOp) → is_written e ≡ true → IsSmallStep name type e o → IsApart (step_operation_at name type e o).pieces
-step_operation_apart name type e (ops.Const v) t p = step_word lexemes.ArithConstant refl (literal_apart e v t p)
-step_operation_apart name type e (ops.Index k) t p =
-    step_word lexemes.LinalgIndex refl (leaf_name classes.Number (decimal_name k p) space_opens (space (fixed_closed lexemes.Colon refl (space (fixed_word lexemes.Index refl none_opens none_apart)))))
-step_operation_apart name type e (ops.Captured k) t p = absurd p
-step_operation_apart name type e (ops.Linear c ts) t p = absurd p
-step_operation_apart name type e (ops.Binary op x y) t p =
-    leaf_name (classes.BinaryName places.PayloadStep) (binary_name op) space_opens (space (operands_apart_by (name x) (name y) (elem_text e) p.0 p.1 (elem_name e (written_small e t))))
-step_operation_apart name type e (ops.Compare k x y) t p =
-    step_word lexemes.ArithCmpi refl (leaf_name classes.Predicate (predicate_name k) (fixed_opens lexemes.Comma refl) (fixed_closed lexemes.Comma refl (space (operands_apart_by (name x) (name y) (type x) p.0 p.1 p.2))))
-step_operation_apart name type e (ops.Select c x y) t p =
-    step_word lexemes.ArithSelect refl (leaf_name classes.Value (given_name (name c) p.0) (fixed_opens lexemes.Comma refl) (fixed_closed lexemes.Comma refl (space (operands_apart_by (name x) (name y) (elem_text e) p.1 p.2 (elem_name e (written_small e t))))))
-step_operation_apart name type e (ops.SignExtend x) t p = cast_apart name type changes.SignExtend x e p.0 p.1 (written_small e t)
-step_operation_apart name type e (ops.ZeroExtend x) t p = cast_apart name type changes.ZeroExtend x e p.0 p.1 (written_small e t)
-step_operation_apart name type e (ops.Truncate x) t p = cast_apart name type changes.Truncate x e p.0 p.1 (written_small e t)
-step_operation_apart name type e (ops.IndexCast x) t p = step_word lexemes.ArithIndexCast refl (conversion_apart name type x e p.0 p.1 (written_small e t))
+operands_apart : (name : Arg → Given) (ts : List (Arg × ℤ)) → AllByRecursion (λ t. IsSmall (name t.0)) ts → AreApart (map (apply_operand_at name) ts)
+operands_apart name [] s = tt
+operands_apart name (t ∷ ts) s = (leaf_name classes.Value (given_name (name t.0) s.0) none_opens none_apart, operands_apart name ts s.1)
 
-step_apart : (name : Arg → Given) (type : Arg → List ℕ) (k : ℕ) (e : ElemTy) (o : StepOp) → IsSmall (name (Step k)) → is_written e ≡ true → IsSmallStep name type e o → IsApart (step_at name type k e o).pieces
-step_apart name type k e o s t p =
-    leaf_name (classes.NewValueAt places.PayloadStatement) (given_name (name (Step k)) s) space_opens (space (fixed_closed lexemes.Equals refl (space (step_operation_apart name type e o t p))))
+apply_apart : (al : List MapShape) (name : Arg → Given) (m : MapShape) (ts : List (Arg × ℤ)) → IsName Alias (alias_of al m) → AllByRecursion (λ t. IsSmall (name t.0)) ts → IsApart (apply_at al name m ts).pieces
+apply_apart al name m ts n s =
+    step_word lexemes.AffineApply refl (leaf_name classes.Alias n (fixed_opens lexemes.OpenParenthesis refl) (fixed_closed lexemes.OpenParenthesis refl
+    (append_apart (commas (map (apply_operand_at name) ts)).pieces _ (commas_apart (map (apply_operand_at name) ts) (operands_apart name ts s)) (fixed_opens lexemes.CloseParenthesis refl) (fixed_closed lexemes.CloseParenthesis refl none_apart))))
+
+linear_apart : (al : List MapShape) (name : Arg → Given) (c : ℤ) (ts : List (Arg × ℤ)) → length ts < 2 ^ 32 → IsName Alias (alias_of al (linear_map c ts)) → AllByRecursion (λ t. IsSmall (name t.0)) ts → IsApart (linear_if al name (step_map (ops.Linear c ts)) ts).pieces
+linear_apart al name c ts few n s = subst (λ o. IsApart (linear_if al name o ts).pieces) (sym (has_step_map c ts few)) (apply_apart al name (linear_map c ts) ts n s)
+
+step_operation_apart : (al : List MapShape) (name : Arg → Given) (type : Arg → List ℕ) (e : ElemTy) (o : StepOp) → is_written e ≡ true → IsSmallStep al name type e o → IsApart (step_operation_at al name type e o).pieces
+step_operation_apart al name type e (ops.Const v) t p = step_word lexemes.ArithConstant refl (literal_apart e v t p)
+step_operation_apart al name type e (ops.Index k) t p =
+    step_word lexemes.LinalgIndex refl (leaf_name classes.Number (decimal_name k p) space_opens (space (fixed_closed lexemes.Colon refl (space (fixed_word lexemes.Index refl none_opens none_apart)))))
+step_operation_apart al name type e (ops.Captured k) t p = absurd p
+step_operation_apart al name type e (ops.Linear c ts) t p = linear_apart al name c ts p.0 p.1 p.2
+step_operation_apart al name type e (ops.Binary op x y) t p =
+    leaf_name (classes.BinaryName places.PayloadStep) (binary_name op) space_opens (space (operands_apart_by (name x) (name y) (elem_text e) p.0 p.1 (elem_name e (written_small e t))))
+step_operation_apart al name type e (ops.Compare k x y) t p =
+    step_word lexemes.ArithCmpi refl (leaf_name classes.Predicate (predicate_name k) (fixed_opens lexemes.Comma refl) (fixed_closed lexemes.Comma refl (space (operands_apart_by (name x) (name y) (type x) p.0 p.1 p.2))))
+step_operation_apart al name type e (ops.Select c x y) t p =
+    step_word lexemes.ArithSelect refl (leaf_name classes.Value (given_name (name c) p.0) (fixed_opens lexemes.Comma refl) (fixed_closed lexemes.Comma refl (space (operands_apart_by (name x) (name y) (elem_text e) p.1 p.2 (elem_name e (written_small e t))))))
+step_operation_apart al name type e (ops.SignExtend x) t p = cast_apart name type changes.SignExtend x e p.0 p.1 (written_small e t)
+step_operation_apart al name type e (ops.ZeroExtend x) t p = cast_apart name type changes.ZeroExtend x e p.0 p.1 (written_small e t)
+step_operation_apart al name type e (ops.Truncate x) t p = cast_apart name type changes.Truncate x e p.0 p.1 (written_small e t)
+step_operation_apart al name type e (ops.IndexCast x) t p = step_word lexemes.ArithIndexCast refl (conversion_apart name type x e p.0 p.1 (written_small e t))
+
+step_apart : (al : List MapShape) (name : Arg → Given) (type : Arg → List ℕ) (k : ℕ) (e : ElemTy) (o : StepOp) → IsSmall (name (Step k)) → is_written e ≡ true → IsSmallStep al name type e o → IsApart (step_at al name type k e o).pieces
+step_apart al name type k e o s t p =
+    leaf_name (classes.NewValueAt places.PayloadStatement) (given_name (name (Step k)) s) space_opens (space (fixed_closed lexemes.Equals refl (space (step_operation_apart al name type e o t p))))
 
 -- a line feed and six blanks
 line_six : {ps : List Piece} → IsApart ps → IsApart (Gap (codes "\n      ") ∷ ps)
@@ -220,33 +237,33 @@ line_six h = gap_apart (refl, (refl, (refl, (refl, (refl, (refl, (refl, tt))))))
 six_opens : {ps : List Piece} → Opens (Gap (codes "\n      ") ∷ ps)
 six_opens = record { opens = λ rest s. refl }
 
-abbrev StepsSmall : (Arg → Given) → (Arg → List ℕ) → ℕ → List PayloadStep → Type 0
-StepsSmall name type k [] = Unit {0}
-StepsSmall name type k (s ∷ ss) = IsSmall (name (Step k)) × (is_written s.ty ≡ true) × IsSmallStep name type s.ty s.op × StepsSmall name type (k + 1) ss
+abbrev StepsSmall : List MapShape → (Arg → Given) → (Arg → List ℕ) → ℕ → List PayloadStep → Type 0
+StepsSmall al name type k [] = Unit {0}
+StepsSmall al name type k (s ∷ ss) = IsSmall (name (Step k)) × (is_written s.ty ≡ true) × IsSmallStep al name type s.ty s.op × StepsSmall al name type (k + 1) ss
 
-steps_apart : (name : Arg → Given) (type : Arg → List ℕ) (k : ℕ) (ss : List PayloadStep) → StepsSmall name type k ss → AreApart (steps_at name type k ss) × AreOpen (steps_at name type k ss)
-steps_apart name type k [] a = (tt, tt)
-steps_apart name type k (s ∷ ss) a = let r = steps_apart name type (k + 1) ss a.3 in ((line_six (step_apart name type k s.ty s.op a.0 a.1 a.2), r.0), (six_opens, r.1))
+steps_apart : (al : List MapShape) (name : Arg → Given) (type : Arg → List ℕ) (k : ℕ) (ss : List PayloadStep) → StepsSmall al name type k ss → AreApart (steps_at al name type k ss) × AreOpen (steps_at al name type k ss)
+steps_apart al name type k [] a = (tt, tt)
+steps_apart al name type k (s ∷ ss) a = let r = steps_apart al name type (k + 1) ss a.3 in ((line_six (step_apart al name type k s.ty s.op a.0 a.1 a.2), r.0), (six_opens, r.1))
 
 -- what the pieces of a payload need
-pub record PayloadSmall (a r : ℕ) (p : PayloadShape) : Type 0 where
+pub record PayloadSmall (al : List MapShape) (a r : ℕ) (p : PayloadShape) : Type 0 where
   pub args : a + length p.ins < 2 ^ 64
   pub ins : AllByRecursion IsSmallElem p.ins
   pub out : IsSmallElem p.out
-  pub steps : StepsSmall (local_name a (length p.ins) r) (arg_type_in p) 0 p.steps
+  pub steps : StepsSmall al (local_name a (length p.ins) r) (arg_type_in p) 0 p.steps
   pub yielded : IsSmall (local_name a (length p.ins) r p.yielded)
 
 yield_apart : (g : Given) (e : ElemTy) → IsSmall g → IsSmallElem e
     → IsApart (Gap new_line ∷ Leaf (classes.Name places.PayloadStatement lexemes.LinalgYield) (lexeme_kind lexemes.LinalgYield) (lexeme_text lexemes.LinalgYield) ∷ Gap (codes " ") ∷ Leaf classes.Value Value (given_text g) ∷ Gap (codes " ") ∷ Fixed lexemes.Colon ∷ Gap (codes " ") ∷ Leaf classes.ElementType Word (elem_text e) ∷ [])
 yield_apart g e s t = line_six (leaf_name (classes.Name places.PayloadStatement lexemes.LinalgYield) (lexeme_name lexemes.LinalgYield refl) space_opens (space (leaf_name classes.Value (given_name g s) space_opens (space (elem_typed e t)))))
 
-pub region_apart : (a r : ℕ) (p : PayloadShape) → PayloadSmall a r p → IsApart (region_at a r p).pieces
-region_apart a r p s =
-    let st = steps_apart (local_name a (length p.ins) r) (arg_type_in p) 0 p.steps s.steps in
-    let e = each_apart (steps_at (local_name a (length p.ins) r) (arg_type_in p) 0 p.steps) st.0 st.1 in
+pub region_apart : (al : List MapShape) (a r : ℕ) (p : PayloadShape) → PayloadSmall al a r p → IsApart (region_at al a r p).pieces
+region_apart al a r p s =
+    let st = steps_apart al (local_name a (length p.ins) r) (arg_type_in p) 0 p.steps s.steps in
+    let e = each_apart (steps_at al (local_name a (length p.ins) r) (arg_type_in p) 0 p.steps) st.0 st.1 in
     fixed_word lexemes.Bb0 refl (fixed_opens lexemes.OpenParenthesis refl) (fixed_closed lexemes.OpenParenthesis refl
     (append_apart (block_args_at a p.ins p.out).pieces _ (block_args_apart a p.ins p.out s.args s.ins s.out) (fixed_opens lexemes.Colon refl)
-    (fixed_closed lexemes.Colon refl (append_apart (each_of (steps_at (local_name a (length p.ins) r) (arg_type_in p) 0 p.steps)).pieces _ e.0 six_opens (yield_apart (local_name a (length p.ins) r p.yielded) p.out s.yielded s.out)))))
+    (fixed_closed lexemes.Colon refl (append_apart (each_of (steps_at al (local_name a (length p.ins) r) (arg_type_in p) 0 p.steps)).pieces _ e.0 six_opens (yield_apart (local_name a (length p.ins) r p.yielded) p.out s.yielded s.out)))))
 
 -- ---- what a printable payload keeps
 
@@ -276,26 +293,35 @@ record ArgsSmall (name : Arg → Given) (type : Arg → List ℕ) (at : Arg → 
   small : (x : Arg) (t : ElemTy) → at x ≡ Some t → IsSmall (name x)
   named : (x : Arg) (t : ElemTy) → at x ≡ Some t → IsName Word (type x)
 
-step_small : (name : Arg → Given) (type : Arg → List ℕ) (at : Arg → Option ElemTy) (e : ElemTy) (o : StepOp) → ArgsSmall name type at → op_fits at e o ≡ true → IsPrintableOp e o → IsSmallStep name type e o
-step_small name type at e (ops.Const v) k h p = h
-step_small name type at e (ops.Index j) k h p = omega arith
-step_small name type at e (ops.Captured j) k h p = absurd p
-step_small name type at e (ops.Linear c ts) k h p = absurd p
-step_small name type at e (ops.Binary op x y) k h p =
+terms_small : (name : Arg → Given) (type : Arg → List ℕ) (at : Arg → Option ElemTy) (ts : List (Arg × ℤ)) → ArgsSmall name type at → list_all (term_fits at) ts ≡ true → AllByRecursion (λ t. IsSmall (name t.0)) ts
+terms_small name type at [] k h = tt
+terms_small name type at (t ∷ ts) k h =
+    let p = and_parts (term_fits at t) (list_all (term_fits at) ts) h in
+    let q = and_parts (has_type (at t.0) Index) (is_coefficient t.1) p.0 in
+    (k.small t.0 Index (found_type (at t.0) Index q.0), terms_small name type at ts k p.1)
+
+step_small : (al : List MapShape) (name : Arg → Given) (type : Arg → List ℕ) (at : Arg → Option ElemTy) (e : ElemTy) (o : StepOp) → ArgsSmall name type at → AreNamed al (listed (step_map o)) → op_fits at e o ≡ true → IsPrintableOp e o → IsSmallStep al name type e o
+step_small al name type at e (ops.Const v) k n h p = h
+step_small al name type at e (ops.Index j) k n h p = omega arith
+step_small al name type at e (ops.Captured j) k n h p = absurd p
+step_small al name type at e (ops.Linear c ts) k n h p =
+    let q = and_parts (is_elem e Index && is_in_range c) (list_all (term_fits at) ts) h in
+    (p, (subst (λ o. AreNamed al (listed o)) (has_step_map c ts p) n).0, terms_small name type at ts k q.1)
+step_small al name type at e (ops.Binary op x y) k n h p =
     let q = and_parts (has_type (at x) e) (has_type (at y) e) h in
     (k.small x e (found_type (at x) e q.0), k.small y e (found_type (at y) e q.1))
-step_small name type at e (ops.Compare c x y) k h p =
+step_small al name type at e (ops.Compare c x y) k n h p =
     let q = and_parts (is_elem e (Int 1)) (have_one_type (at x) (at y)) h in
     let f = one_found (at x) (at y) q.1 in
     (k.small x f.0 f.1, k.small y f.0 f.2, k.named x f.0 f.1)
-step_small name type at e (ops.Select c x y) k h p =
+step_small al name type at e (ops.Select c x y) k n h p =
     let q = and_parts (has_type (at c) (Int 1) && has_type (at x) e) (has_type (at y) e) h in
     let u = and_parts (has_type (at c) (Int 1)) (has_type (at x) e) q.0 in
     (k.small c (Int 1) (found_type (at c) (Int 1) u.0), k.small x e (found_type (at x) e u.1), k.small y e (found_type (at y) e q.1))
-step_small name type at e (ops.SignExtend x) k h p = let f = widening_found (at x) e h in (k.small x f.0 f.1, k.named x f.0 f.1)
-step_small name type at e (ops.ZeroExtend x) k h p = let f = widening_found (at x) e h in (k.small x f.0 f.1, k.named x f.0 f.1)
-step_small name type at e (ops.Truncate x) k h p = let f = narrowing_found (at x) e h in (k.small x f.0 f.1, k.named x f.0 f.1)
-step_small name type at e (ops.IndexCast x) k h p = let f = cast_found (at x) e h in (k.small x f.0 f.1, k.named x f.0 f.1)
+step_small al name type at e (ops.SignExtend x) k n h p = let f = widening_found (at x) e h in (k.small x f.0 f.1, k.named x f.0 f.1)
+step_small al name type at e (ops.ZeroExtend x) k n h p = let f = widening_found (at x) e h in (k.small x f.0 f.1, k.named x f.0 f.1)
+step_small al name type at e (ops.Truncate x) k n h p = let f = narrowing_found (at x) e h in (k.small x f.0 f.1, k.named x f.0 f.1)
+step_small al name type at e (ops.IndexCast x) k n h p = let f = cast_found (at x) e h in (k.small x f.0 f.1, k.named x f.0 f.1)
 
 length_last : {A : Type 0} (xs : List A) (y : A) → length (xs ++ y ∷ []) ≡ length xs + 1
 length_last xs y = length-append xs (y ∷ [])
@@ -303,23 +329,24 @@ length_last xs y = length-append xs (y ∷ [])
 abbrev types_of : List ElemTy → ElemTy → List PayloadStep → Arg → List ℕ
 types_of ins out all x = elem_or (arg_type ins out all x)
 
-steps_small : (a r : ℕ) (ins : List ElemTy) (out : ElemTy) (all ss earlier : List PayloadStep) (k : ℕ) → all ≡ earlier ++ ss → k ≡ length earlier → a + length ins < 2 ^ 64 → r + (k + length ss) < 2 ^ 64 → AllByRecursion IsSmallElem ins → IsSmallElem out → AllByRecursion (λ t. IsSmallElem t.ty) earlier
-    → steps_fit ins out ss earlier ≡ true → AllByRecursion IsPrintableStep ss → StepsSmall (local_name a (length ins) r) (types_of ins out all) k ss × AllByRecursion (λ t. IsSmallElem t.ty) (earlier ++ ss)
-steps_small a r ins out all [] earlier k ends e sa sr si so se h s = (tt, subst (λ (xs : List PayloadStep). AllByRecursion (λ t. IsSmallElem t.ty) xs) (sym (append-nil earlier)) se)
-steps_small a r ins out all (x ∷ ss) earlier k ends e sa sr si so se h s =
+steps_small : (al : List MapShape) (a r : ℕ) (ins : List ElemTy) (out : ElemTy) (all ss earlier : List PayloadStep) (k : ℕ) → all ≡ earlier ++ ss → k ≡ length earlier → a + length ins < 2 ^ 64 → r + (k + length ss) < 2 ^ 64 → AllByRecursion IsSmallElem ins → IsSmallElem out → AllByRecursion (λ t. IsSmallElem t.ty) earlier
+    → AreNamed al (steps_maps ss) → steps_fit ins out ss earlier ≡ true → AllByRecursion IsPrintableStep ss → StepsSmall al (local_name a (length ins) r) (types_of ins out all) k ss × AllByRecursion (λ t. IsSmallElem t.ty) (earlier ++ ss)
+steps_small al a r ins out all [] earlier k ends e sa sr si so se named h s = (tt, subst (λ (xs : List PayloadStep). AllByRecursion (λ t. IsSmallElem t.ty) xs) (sym (append-nil earlier)) se)
+steps_small al a r ins out all (x ∷ ss) earlier k ends e sa sr si so se named h s =
+    let names = all_split (λ m. IsName Alias (alias_of al m)) (listed (step_map x.op)) (steps_maps ss) named in
     let p = and_parts (op_fits (arg_type ins out earlier) x.ty x.op) (steps_fit ins out ss (earlier ++ x ∷ [])) h in
     let args : ArgsSmall (local_name a (length ins) r) (types_of ins out all) (arg_type ins out earlier) = record {
       small = λ y t q. (arg_small a r ins out earlier sa (omega arith) si so se y t q).0;
       named = λ y t q. subst (λ (text : List ℕ). IsName Word text) (sym (arg_text ins out earlier (x ∷ ss) all y t ends q)) (elem_name t (arg_small a r ins out earlier sa (omega arith) si so se y t q).1);
     } in
-    let one = step_small (local_name a (length ins) r) (types_of ins out all) (arg_type ins out earlier) x.ty x.op args p.0 s.0.op in
+    let one = step_small al (local_name a (length ins) r) (types_of ins out all) (arg_type ins out earlier) x.ty x.op args names.0 p.0 s.0.op in
     let n : k + 1 ≡ length (earlier ++ x ∷ []) = omega (arith, length_last earlier x) in
     let longer : all ≡ (earlier ++ x ∷ []) ++ ss = ends ∙ sym (append_assoc earlier (x ∷ []) ss) in
-    let more = steps_small a r ins out all ss (earlier ++ x ∷ []) (k + 1) longer n sa (omega arith) si so (all_last (λ t. IsSmallElem t.ty) earlier x se (written_small x.ty s.0.ty)) p.1 s.1 in
+    let more = steps_small al a r ins out all ss (earlier ++ x ∷ []) (k + 1) longer n sa (omega arith) si so (all_last (λ t. IsSmallElem t.ty) earlier x se (written_small x.ty s.0.ty)) names.1 p.1 s.1 in
     ((omega arith, s.0.ty, one, more.0), subst (λ (xs : List PayloadStep). AllByRecursion (λ t. IsSmallElem t.ty) xs) (append_assoc earlier (x ∷ []) ss) more.1)
 
-pub payload_small : (a r : ℕ) (p : PayloadShape) → a + length p.ins < 2 ^ 64 → r + length p.steps < 2 ^ 64 → AllByRecursion IsSmallElem p.ins → IsSmallElem p.out → payload_fits p ≡ true → AllByRecursion IsPrintableStep p.steps → PayloadSmall a r p
-payload_small a r p sa sr si so h s =
+pub payload_small : (al : List MapShape) (a r : ℕ) (p : PayloadShape) → a + length p.ins < 2 ^ 64 → r + length p.steps < 2 ^ 64 → AllByRecursion IsSmallElem p.ins → IsSmallElem p.out → AreNamed al (steps_maps p.steps) → payload_fits p ≡ true → AllByRecursion IsPrintableStep p.steps → PayloadSmall al a r p
+payload_small al a r p sa sr si so named h s =
     let q = and_parts (steps_fit p.ins p.out p.steps []) (has_type (arg_type p.ins p.out p.steps p.yielded) p.out) h in
-    let st = steps_small a r p.ins p.out p.steps p.steps [] 0 refl refl sa (omega arith) si so tt q.0 s in
+    let st = steps_small al a r p.ins p.out p.steps p.steps [] 0 refl refl sa (omega arith) si so tt named q.0 s in
     record { args = sa; ins = si; out = so; steps = st.0; yielded = (arg_small a r p.ins p.out p.steps sa sr si so st.1 p.yielded p.out (found_type (arg_type p.ins p.out p.steps p.yielded) p.out q.1)).0 }

@@ -1,6 +1,7 @@
 -- A payload's tree is spelled by its pieces.
-use Rattle.std.proofs.Common.{ℕ, ◌+◌, ℤ, pos, negsuc, Bool, true, false, List, [], ◌∷◌, length, refl, codes}
+use Rattle.std.proofs.Common.{ℕ, ◌+◌, ℤ, pos, negsuc, Bool, true, false, List, [], ◌∷◌, map, length, None, refl, sym, subst, ◌∙◌, codes}
 use Rattle.std.specs.List.{AllByRecursion}
+use Rattle.std.proofs.lemmas.List.{append-nil}
 use Rattle.payload_ops.specs.declared.kinds.ElemTy.{ElemTy}
 use Rattle.payload_ops.specs.declared.kinds.ElemTy.TheVariants.{Int}
 use Rattle.payload_ops.specs.declared.kinds.BinOp.{BinOp}
@@ -12,6 +13,7 @@ use Rattle.payload_ops.specs.Bits.{signed_of}
 use Rattle.payload_ops.specs.Payload.{bits_of, is_elem}
 use Rattle.payload_ops.specs.declared.step.PayloadStep.{PayloadStep}
 use Rattle.payload_ops.specs.Shape.{PayloadShape}
+use Rattle.affine_maps.specs.Shape.{MapShape}
 use Rattle.text_format.specs.declared.class.Class.TheVariants as classes
 use Rattle.text_format.specs.declared.lexeme.Lexeme.TheVariants as lexemes
 use Rattle.mlir_syntax.specs.declared.tree.steps.ConstantStep.{ConstantStep}
@@ -21,6 +23,7 @@ use Rattle.mlir_syntax.specs.declared.tree.steps.SelectStep.{SelectStep}
 use Rattle.mlir_syntax.specs.declared.tree.steps.CastStep.{CastStep}
 use Rattle.mlir_syntax.specs.declared.tree.steps.IndexCastStep.{IndexCastStep}
 use Rattle.mlir_syntax.specs.declared.tree.steps.IndexStep.{IndexStep}
+use Rattle.mlir_syntax.specs.declared.tree.steps.ApplyStep.{ApplyStep}
 use Rattle.mlir_syntax.specs.declared.tree.steps.StepOperation.{StepOperation}
 use Rattle.mlir_syntax.specs.declared.tree.steps.StepOperation.TheVariants as steps
 use Rattle.mlir_syntax.specs.declared.tree.literals.TypedNumber.{TypedNumber}
@@ -30,14 +33,19 @@ use Rattle.mlir_syntax.specs.Steps as step_grammar
 use Rattle.mlir_syntax.specs.Payloads as payload_grammar
 use Rattle.mlir_print.specs.declared.names.Given.{Given}
 use Rattle.mlir_print.specs.Names.{local_name}
+use Rattle.mlir_print.specs.Maps.{linear_map}
+use Rattle.mlir_print.proofs.LinearMaps.{has_step_map}
 use Rattle.text_format.specs.Writers.{Writer, keep, made}
 use Rattle.mlir_resolve.specs.declared.words.Cast.{Cast}
 use Rattle.mlir_resolve.specs.declared.words.Cast.TheVariants as changes
 use Rattle.mlir_print.specs.Literals.{number_at, literal_if, literal_at}
-use Rattle.mlir_print.specs.Payloads.{block_arg_at, next_arg_at, next_args_at, block_args_at, type_in, constant_at, binary_at, compare_at, select_at, conversion_at, cast_at, index_cast_at, index_at, operation_at as step_operation_at, step_at, steps_at, region_at, new_line}
+use Rattle.mlir_print.specs.Payloads.{block_arg_at, next_arg_at, next_args_at, block_args_at, type_in, constant_at, binary_at, compare_at, select_at, conversion_at, cast_at, index_cast_at, index_at, apply_operand_at, apply_at, linear_if, operation_at as step_operation_at, step_at, steps_at, region_at, new_line}
 use Rattle.text_format.specs.Pieces as P
+use Rattle.text_format.specs.Formats.{Format}
+use Rattle.text_format.specs.Ends.{with_last}
 use Rattle.mlir_roundtrip.specs.Printable.{IsPrintableOp, IsPrintableStep}
-use Rattle.text_format.proofs.Written.{IsWritten, AreWritten, put-w, lay-w, gap-w, sp-w, pair-w, made-w, before-w, many-w}
+use Rattle.text_format.proofs.Written.{IsWritten, AreWritten, put-w, lay-w, gap-w, sp-w, pair-w, made-w, before-w, many-w, list_end-w}
+use Rattle.mlir_roundtrip.proofs.MapUses.{use-w}
 
 block_arg-w : (a : ℕ) (e : ElemTy) → IsWritten payload_grammar.block_arg (block_arg_at a e)
 unfolding payload_grammar.block_arg
@@ -110,6 +118,24 @@ index-w : (k : ℕ) → IsWritten step_grammar.index_step (index_at k)
 unfolding step_grammar.index_step
 index-w k = made-w _ _ (λ _. refl) (pair-w (put-w _ _ _) (sp-w (before-w lexemes.Index (P.Gap (codes " ") ∷ P.Fixed lexemes.Index ∷ []) (λ at. refl) (before-w lexemes.Colon (P.Gap (codes " ") ∷ P.Fixed lexemes.Colon ∷ []) (λ at. refl) (put-w _ _ _)))))
 
+operand-w : (name : Arg → Given) (t : Arg × ℤ) → IsWritten step_grammar.apply_operand (apply_operand_at name t)
+unfolding step_grammar.apply_operand
+operand-w name t = made-w _ _ (λ _. refl) (put-w _ _ _)
+
+operands-w : (name : Arg → Given) (ts : List (Arg × ℤ)) → AreWritten step_grammar.apply_operand (map (apply_operand_at name) ts)
+operands-w name [] = tt
+operands-w name (t ∷ ts) = (operand-w name t, operands-w name ts)
+
+-- without brackets
+no_symbols-w : {A : Type 0} {f : Format A} {v : Writer A} → IsWritten f v → IsWritten (with_last (classes.Exactly lexemes.OpenBracket) f step_grammar.apply_symbols) (made (λ x. (x, None)) v)
+no_symbols-w {f = f} {v = v} h = record { law = λ at. append-nil (f.spell (v.tree at)) ∙ h.law at }
+
+apply-w : (al : List MapShape) (name : Arg → Given) (m : MapShape) (ts : List (Arg × ℤ)) → IsWritten step_grammar.apply_step (apply_at al name m ts)
+unfolding step_grammar.apply_step
+apply-w al name m ts =
+    let h = no_symbols-w (pair-w (put-w _ _ _) (sp-w (pair-w (use-w al m) (lay-w lexemes.OpenParenthesis (list_end-w lexemes.CloseParenthesis step_grammar.apply_operand (map (apply_operand_at name) ts) (operands-w name ts)))))) in
+    record { law = λ at. h.law at }
+
 abbrev WritesStep : Writer StepOperation → Type 0
 WritesStep v = IsWritten step_grammar.step_operation v
 
@@ -141,28 +167,32 @@ as_cast-w : {v : Writer CastStep} → IsWritten step_grammar.cast_step v → Wri
 unfolding step_grammar.step_operation
 as_cast-w h = record { law = λ at. h.law at }
 
-step_operation-w : (name : Arg → Given) (type : Arg → List ℕ) (e : ElemTy) (o : StepOp) → IsPrintableOp e o → WritesStep (step_operation_at name type e o)
-step_operation-w name type e (ops.Const v) h = as_constant-w (constant-w e v)
-step_operation-w name type e (ops.Index k) h = as_index-w (index-w k)
-step_operation-w name type e (ops.Captured k) h = absurd h
-step_operation-w name type e (ops.Linear c ts) h = absurd h
-step_operation-w name type e (ops.Binary op x y) h = as_binary-w (binary-w name op x y e)
-step_operation-w name type e (ops.Compare k x y) h = as_compare-w (compare-w name type k x y)
-step_operation-w name type e (ops.Select c x y) h = as_select-w (select-w name c x y e)
-step_operation-w name type e (ops.SignExtend x) h = as_cast-w (cast-w name type changes.SignExtend x e)
-step_operation-w name type e (ops.ZeroExtend x) h = as_cast-w (cast-w name type changes.ZeroExtend x e)
-step_operation-w name type e (ops.Truncate x) h = as_cast-w (cast-w name type changes.Truncate x e)
-step_operation-w name type e (ops.IndexCast x) h = as_index_cast-w (index_cast-w name type x e)
+as_apply-w : {v : Writer ApplyStep} → IsWritten step_grammar.apply_step v → WritesStep (made steps.Apply v)
+unfolding step_grammar.step_operation
+as_apply-w h = record { law = λ at. h.law at }
 
-step-w : (name : Arg → Given) (type : Arg → List ℕ) (k : ℕ) (s : PayloadStep) → IsPrintableStep s → IsWritten payload_grammar.step (step_at name type k s.ty s.op)
+step_operation-w : (al : List MapShape) (name : Arg → Given) (type : Arg → List ℕ) (e : ElemTy) (o : StepOp) → IsPrintableOp e o → WritesStep (step_operation_at al name type e o)
+step_operation-w al name type e (ops.Const v) h = as_constant-w (constant-w e v)
+step_operation-w al name type e (ops.Index k) h = as_index-w (index-w k)
+step_operation-w al name type e (ops.Captured k) h = absurd h
+step_operation-w al name type e (ops.Linear c ts) h = subst (λ o. WritesStep (linear_if al name o ts)) (sym (has_step_map c ts h)) (as_apply-w (apply-w al name (linear_map c ts) ts))
+step_operation-w al name type e (ops.Binary op x y) h = as_binary-w (binary-w name op x y e)
+step_operation-w al name type e (ops.Compare k x y) h = as_compare-w (compare-w name type k x y)
+step_operation-w al name type e (ops.Select c x y) h = as_select-w (select-w name c x y e)
+step_operation-w al name type e (ops.SignExtend x) h = as_cast-w (cast-w name type changes.SignExtend x e)
+step_operation-w al name type e (ops.ZeroExtend x) h = as_cast-w (cast-w name type changes.ZeroExtend x e)
+step_operation-w al name type e (ops.Truncate x) h = as_cast-w (cast-w name type changes.Truncate x e)
+step_operation-w al name type e (ops.IndexCast x) h = as_index_cast-w (index_cast-w name type x e)
+
+step-w : (al : List MapShape) (name : Arg → Given) (type : Arg → List ℕ) (k : ℕ) (s : PayloadStep) → IsPrintableStep s → IsWritten payload_grammar.step (step_at al name type k s.ty s.op)
 unfolding payload_grammar.step
-step-w name type k s h = made-w _ _ (λ _. refl) (pair-w (put-w _ _ _) (sp-w (lay-w lexemes.Equals (sp-w (step_operation-w name type s.ty s.op h.op)))))
+step-w al name type k s h = made-w _ _ (λ _. refl) (pair-w (put-w _ _ _) (sp-w (lay-w lexemes.Equals (sp-w (step_operation-w al name type s.ty s.op h.op)))))
 
-steps-w : (name : Arg → Given) (type : Arg → List ℕ) (k : ℕ) (ss : List PayloadStep) → AllByRecursion IsPrintableStep ss → AreWritten payload_grammar.step (steps_at name type k ss)
-steps-w name type k [] h = tt
-steps-w name type k (s ∷ ss) h = (gap-w new_line (step-w name type k s h.0), steps-w name type (k + 1) ss h.1)
+steps-w : (al : List MapShape) (name : Arg → Given) (type : Arg → List ℕ) (k : ℕ) (ss : List PayloadStep) → AllByRecursion IsPrintableStep ss → AreWritten payload_grammar.step (steps_at al name type k ss)
+steps-w al name type k [] h = tt
+steps-w al name type k (s ∷ ss) h = (gap-w new_line (step-w al name type k s h.0), steps-w al name type (k + 1) ss h.1)
 
-pub region-w : (a r : ℕ) (p : PayloadShape) → AllByRecursion IsPrintableStep p.steps → IsWritten payload_grammar.region (region_at a r p)
+pub region-w : (al : List MapShape) (a r : ℕ) (p : PayloadShape) → AllByRecursion IsPrintableStep p.steps → IsWritten payload_grammar.region (region_at al a r p)
 unfolding payload_grammar.region
-region-w a r p h = made-w _ _ (λ _. refl) (lay-w lexemes.Bb0 (lay-w lexemes.OpenParenthesis (pair-w (block_args-w a p.ins p.out) (lay-w lexemes.Colon (many-w _ payload_grammar.step (steps_at (local_name a (length p.ins) r) (type_in p) 0 p.steps) (steps-w (local_name a (length p.ins) r) (type_in p) 0 p.steps h)
+region-w al a r p h = made-w _ _ (λ _. refl) (lay-w lexemes.Bb0 (lay-w lexemes.OpenParenthesis (pair-w (block_args-w a p.ins p.out) (lay-w lexemes.Colon (many-w _ payload_grammar.step (steps_at al (local_name a (length p.ins) r) (type_in p) 0 p.steps) (steps-w al (local_name a (length p.ins) r) (type_in p) 0 p.steps h)
     (gap-w new_line (pair-w (put-w _ _ _) (sp-w (pair-w (put-w _ _ _) (sp-w (lay-w lexemes.Colon (sp-w (put-w _ _ _)))))))))))))

@@ -1,10 +1,10 @@
 -- The canonical tree of a payload stands for the payload.
-use Rattle.std.proofs.Common.{◌≡◌, ◌<◌, ◌≤◌, ◌^◌, ◌⊎◌, inl, inr, subst, ℕ, ◌+◌, suc, zero, true, ◌&&◌, List, [], ◌∷◌, ◌++◌, length, Option, Some, None, Result as Answer, Ok, refl, sym, ap, ◌∙◌, append_assoc, length-append, arith, nat_lt}
+use Rattle.std.proofs.Common.{◌≡◌, ◌<◌, ◌≤◌, ◌^◌, ◌⊎◌, inl, inr, subst, ℕ, ◌+◌, suc, zero, true, ◌&&◌, ◌==◌, ℤ, List, [], ◌∷◌, ◌++◌, map, get_or, length, Option, Some, None, Result as Answer, Ok, refl, sym, ap, ◌∙◌, append_assoc, length-append, arith, nat_lt}
 use Rattle.std.specs.Prelude.{slice_get}
-use Rattle.std.specs.List.{AllByRecursion}
+use Rattle.std.specs.List.{AllByRecursion, list_all}
 use Rattle.std.specs.Option.{option_map}
-use Rattle.std.proofs.lemmas.Bool.{and_parts, lt-ltb, le-leb}
-use Rattle.std.proofs.lemmas.List.{append-nil}
+use Rattle.std.proofs.lemmas.Bool.{and_parts, lt-ltb, le-leb, eq-eqb}
+use Rattle.std.proofs.lemmas.List.{append-nil, length-map}
 use Rattle.payload_ops.specs.declared.kinds.ElemTy.{ElemTy}
 use Rattle.payload_ops.specs.declared.kinds.ElemTy.TheVariants.{Int, Index}
 use Rattle.payload_ops.specs.declared.kinds.BinOp.{BinOp}
@@ -17,27 +17,34 @@ use Rattle.payload_ops.specs.declared.step.StepOp.{StepOp}
 use Rattle.payload_ops.specs.declared.step.StepOp.TheVariants as ops
 use Rattle.payload_ops.specs.declared.step.PayloadStep.{PayloadStep}
 use Rattle.payload_ops.specs.Shape.{PayloadShape}
-use Rattle.payload_ops.specs.Payload.{is_elem, is_narrower, arg_type, has_type, have_one_type, op_fits, steps_fit, payload_fits}
+use Rattle.payload_ops.specs.Payload.{is_elem, is_narrower, arg_type, has_type, have_one_type, term_fits, op_fits, steps_fit, payload_fits}
+use Rattle.payload_ops.specs.Numbers.{is_in_range, is_coefficient}
+use Rattle.affine_maps.specs.Shape.{MapShape}
 use Rattle.text_format.specs.Token.{TokenShape}
 use Rattle.mlir_syntax.specs.declared.tree.payloads.NextArg.{NextArg}
+use Rattle.mlir_syntax.specs.declared.tree.steps.ApplyOperand.{ApplyOperand}
 use Rattle.mlir_syntax.specs.declared.tree.payloads.Step.{Step}
 use Rattle.mlir_resolve.specs.declared.names.Meaning.TheVariants.{Local}
-use Rattle.mlir_lex.specs.Chain.{and_then}
+use Rattle.mlir_lex.specs.Chain.{and_then, thread}
 use Rattle.mlir_resolve.specs.Names.{Entry, entry, find}
 use Rattle.mlir_resolve.specs.declared.names.Inside.{Inside}
 use Rattle.mlir_lex.specs.declared.fault.Fault.{Fault}
 use Rattle.mlir_resolve.specs.declared.words.Cast.{Cast}
 use Rattle.mlir_resolve.specs.declared.words.Cast.TheVariants as changes
 use Rattle.mlir_resolve.specs.Words.{binary_text, predicate_text, cast_text, named_binary, named_predicate, named_cast}
-use Rattle.mlir_resolve.specs.Steps.{is_integer, with_step, operation_of, step_of, steps_of}
+use Rattle.mlir_resolve.specs.Steps.{is_integer, with_step, index_argument, term_on, apply_of, operation_of, step_of, stop_behind, steps_of}
+use Rattle.mlir_resolve.specs.Maps.{AliasShape}
 use Rattle.mlir_resolve.specs.Payload.{locals_of, arg_of, more_args, block_args, payload_of}
 use Rattle.mlir_print.specs.declared.names.Given.{Given}
 use Rattle.mlir_print.specs.Types.{elem_text}
 use Rattle.mlir_print.specs.Names.{given_text, local_name}
-use Rattle.text_format.specs.Writers.{Writer, each_of}
-use Rattle.mlir_print.specs.Payloads.{next_args_at, block_args_at, elem_or, type_in, operation_at, step_at, steps_at, region_at}
+use Rattle.mlir_print.specs.Maps.{linear_terms, linear_map, step_map, listed, steps_maps}
+use Rattle.mlir_print.proofs.LinearMaps.{has_step_map}
+use Rattle.text_format.specs.Writers.{Writer, each_of, commas, after_comma}
+use Rattle.mlir_print.specs.Payloads.{next_args_at, block_args_at, elem_or, type_in, apply_operand_at, apply_at, linear_if, operation_at, step_at, steps_at, region_at}
 use Rattle.mlir_resolve.specs.Literals.{is_written}
 use Rattle.mlir_roundtrip.specs.Printable.{IsPrintableOp, IsPrintableStep}
+use Rattle.mlir_roundtrip.proofs.Aliases.{MapRead}
 use Rattle.mlir_roundtrip.proofs.Numbers.{Good, elem_good, good_read, decimal_value, literal_read}
 use Rattle.mlir_roundtrip.proofs.Envs.{arg_name, result_name, find_more, find_new, IsCanon, AreCanon, Small, fresh_arg, fresh_result}
 use Rattle.mlir_roundtrip.proofs.Fits.{same_elem, found_type, get_last, mapped, one_found, widening_found, narrowing_found, cast_found, arg_text}
@@ -55,9 +62,28 @@ pub each_laid : {A : Type 0} (ws : List (Writer A)) (at : ℕ) → Laid ws ((eac
 each_laid [] at = tt
 each_laid (w ∷ ws) at = ((at, refl), each_laid ws _)
 
+-- behind commas
+after_laid : {A : Type 0} (ws : List (Writer A)) (xs : List A) → Laid (map after_comma ws) xs → Laid ws xs
+after_laid [] [] l = tt
+after_laid [] (x ∷ xs) l = absurd l
+after_laid (w ∷ ws) [] l = absurd l
+after_laid (w ∷ ws) (x ∷ xs) l = ((l.0.0 + 1 + 1, l.0.1), after_laid ws xs l.1)
+
+pub commas_laid : {A : Type 0} (ws : List (Writer A)) (at : ℕ) → Laid ws ((commas ws).tree at)
+commas_laid [] at = tt
+commas_laid (w ∷ ws) at = ((at, refl), after_laid ws _ (each_laid (map after_comma ws) _))
+
 pub all_last : {A : Type 0} (P : A → Type 0) (xs : List A) (y : A) → AllByRecursion P xs → P y → AllByRecursion P (xs ++ y ∷ [])
 all_last P [] y h p = (p, tt)
 all_last P (x ∷ xs) y h p = (h.0, all_last P xs y h.1 p)
+
+pub all_both : {A : Type 0} (P : A → Type 0) (xs ys : List A) → AllByRecursion P xs → AllByRecursion P ys → AllByRecursion P (xs ++ ys)
+all_both P [] ys h k = k
+all_both P (x ∷ xs) ys h k = (h.0, all_both P xs ys h.1 k)
+
+pub all_split : {A : Type 0} (P : A → Type 0) (xs ys : List A) → AllByRecursion P (xs ++ ys) → AllByRecursion P xs × AllByRecursion P ys
+all_split P [] ys h = (tt, h)
+all_split P (x ∷ xs) ys h = let r = all_split P xs ys h.1 in ((h.0, r.0), r.1)
 
 wider : (a r b s : ℕ) → a ≤ b → r ≤ s → (n : List ℕ) → IsCanon a r n → IsCanon b s n
 wider a r b s la lr n (inl p) = inl (p.0, omega (arith, p.1), p.2)
@@ -246,55 +272,100 @@ to_integer (Int w) t h = refl
 to_integer Index (Int w) h = absurd (cc h)
 to_integer Index Index h = absurd (cc h)
 
-compare_goes : (outer names : List Entry) (steps : List PayloadStep) (name : Arg → Given) (type : Arg → List ℕ) (k : Predicate) (x y : Arg) (e t : ElemTy) (place : ℕ) → HeldIn name names x t → HeldIn name names y t → Good t → type x ≡ elem_text t → Int 1 ≡ e
-    → operation_of outer (inside names steps) ((operation_at name type e (ops.Compare k x y)).tree place) ≡ Ok (inside names steps, record { ty = e; op = ops.Compare k x y })
-compare_goes outer names steps name type k x y e t place hx hy g ty one =
+compare_goes : (alias : List AliasShape) (al : List MapShape) (outer names : List Entry) (steps : List PayloadStep) (name : Arg → Given) (type : Arg → List ℕ) (k : Predicate) (x y : Arg) (e t : ElemTy) (place : ℕ) → HeldIn name names x t → HeldIn name names y t → Good t → type x ≡ elem_text t → Int 1 ≡ e
+    → operation_of alias outer None (inside names steps) ((operation_at al name type e (ops.Compare k x y)).tree place) ≡ Ok (inside names steps, record { ty = e; op = ops.Compare k x y })
+compare_goes alias al outer names steps name type k x y e t place hx hy g ty one =
     rw (predicate_read k, hx, hy, ty, g) (ap (λ u. Ok (inside names steps, record { ty = u; op = ops.Compare k x y })) one)
 
-operation_goes : (outer names : List Entry) (steps : List PayloadStep) (name : Arg → Given) (type : Arg → List ℕ) (at : Arg → Option ElemTy) (e : ElemTy) (o : StepOp) (place : ℕ) → ArgsHeld name type names at → op_fits at e o ≡ true → is_written e ≡ true → IsPrintableOp e o
-    → operation_of outer (inside names steps) ((operation_at name type e o).tree place) ≡ Ok (inside names steps, record { ty = e; op = o })
-operation_goes outer names steps name type at e (ops.Const v) place k h t p = rw (literal_read e v _ t h p) refl
-operation_goes outer names steps name type at e (ops.Index j) place k h t p =
+-- ---- affine.apply
+
+get_here : {A : Type 0} (front rest : List A) (x d : A) → get_or (front ++ x ∷ rest) (length front) d ≡ x
+get_here [] rest x d = refl
+get_here (y ∷ front) rest x d = get_here front rest x d
+
+-- each dimension's argument is found again
+terms_back : (front : List Arg) (ts : List (Arg × ℤ)) → map (term_on (front ++ map (λ t. t.0) ts)) (linear_terms (length front) ts) ≡ ts
+terms_back front [] = refl
+terms_back front (t ∷ ts) =
+    let longer = append_assoc front (t.0 ∷ []) (map (λ t. t.0) ts) in
+    let len : length (front ++ t.0 ∷ []) ≡ suc (length front) = omega (arith, length-append front (t.0 ∷ [])) in
+    let more = subst (λ k. map (term_on (front ++ t.0 ∷ map (λ t. t.0) ts)) (linear_terms k ts) ≡ ts) len (subst (λ (xs : List Arg). map (term_on xs) (linear_terms (length (front ++ t.0 ∷ [])) ts) ≡ ts) longer (terms_back (front ++ t.0 ∷ []) ts)) in
+    ap (λ x. (x, t.1) ∷ map (term_on (front ++ t.0 ∷ map (λ t. t.0) ts)) (linear_terms (suc (length front)) ts)) (get_here front (map (λ t. t.0) ts) t.0 Out) ∙ ap (λ us. (t.0, t.1) ∷ us) more
+
+operands_go : (outer names : List Entry) (steps : List PayloadStep) (name : Arg → Given) (type : Arg → List ℕ) (at : Arg → Option ElemTy) (ts : List (Arg × ℤ)) (xs : List ApplyOperand) → ArgsHeld name type names at → list_all (term_fits at) ts ≡ true
+    → Laid (map (apply_operand_at name) ts) xs → thread (index_argument outer) (inside names steps) xs ≡ Ok (inside names steps, map (λ t. t.0) ts)
+operands_go outer names steps name type at [] [] k h l = refl
+operands_go outer names steps name type at [] (x ∷ xs) k h l = absurd l
+operands_go outer names steps name type at (t ∷ ts) [] k h l = absurd l
+operands_go outer names steps name type at (t ∷ ts) (x ∷ xs) k h l =
+    let p = and_parts (term_fits at t) (list_all (term_fits at) ts) h in
+    let q = and_parts (has_type (at t.0) Index) (is_coefficient t.1) p.0 in
+    let held = (k t.0 Index (found_type (at t.0) Index q.0)).0 in
+    rw (l.0.1, held, operands_go outer names steps name type at ts xs k p.1 l.1) refl
+
+as_many : {A : Type 0} (ws : List (Writer A)) (xs : List A) → Laid ws xs → length xs ≡ length ws
+as_many [] [] l = refl
+as_many [] (x ∷ xs) l = absurd l
+as_many (w ∷ ws) [] l = absurd l
+as_many (w ∷ ws) (x ∷ xs) l = ap suc (as_many ws xs l.1)
+
+apply_goes : (alias : List AliasShape) (al : List MapShape) (outer names : List Entry) (steps : List PayloadStep) (name : Arg → Given) (type : Arg → List ℕ) (at : Arg → Option ElemTy) (c : ℤ) (ts : List (Arg × ℤ)) (place : ℕ) → ArgsHeld name type names at → MapRead alias al (linear_map c ts) → list_all (term_fits at) ts ≡ true
+    → apply_of alias outer None (inside names steps) ((apply_at al name (linear_map c ts) ts).tree place) ≡ Ok (inside names steps, record { ty = Index; op = ops.Linear c ts })
+apply_goes alias al outer names steps name type at c ts place k m h =
+    let laid : Laid (map (apply_operand_at name) ts) ((apply_at al name (linear_map c ts) ts).tree place).operands = commas_laid (map (apply_operand_at name) ts) _ in
+    let len : length ((apply_at al name (linear_map c ts) ts).tree place).operands ≡ length ts = as_many (map (apply_operand_at name) ts) _ laid ∙ length-map ts (apply_operand_at name) in
+    let count : (length ts == length ((apply_at al name (linear_map c ts) ts).tree place).operands + 0) ≡ true = eq-eqb (length ts) (length ((apply_at al name (linear_map c ts) ts).tree place).operands + 0) (omega (arith, len)) in
+    rw (m.1, count, operands_go outer names steps name type at ts _ k h laid, append-nil (map (λ t. t.0) ts), terms_back [] ts) refl
+
+operation_goes : (alias : List AliasShape) (al : List MapShape) (outer names : List Entry) (steps : List PayloadStep) (name : Arg → Given) (type : Arg → List ℕ) (at : Arg → Option ElemTy) (e : ElemTy) (o : StepOp) (place : ℕ) → ArgsHeld name type names at → AllByRecursion (MapRead alias al) (listed (step_map o)) → op_fits at e o ≡ true → is_written e ≡ true → IsPrintableOp e o
+    → operation_of alias outer None (inside names steps) ((operation_at al name type e o).tree place) ≡ Ok (inside names steps, record { ty = e; op = o })
+operation_goes alias al outer names steps name type at e (ops.Const v) place k m h t p = rw (literal_read e v _ t h p) refl
+operation_goes alias al outer names steps name type at e (ops.Index j) place k m h t p =
     let index : e ≡ Index = same_elem e Index h in
     let few = le-leb j 1048576 p in
     let value = decimal_value j (omega (arith, p)) in
     rw (value, few) (ap (λ u. Ok (inside names steps, record { ty = u; op = ops.Index j })) (sym index))
-operation_goes outer names steps name type at e (ops.Captured j) place k h t p = absurd p
-operation_goes outer names steps name type at e (ops.Linear c ts) place k h t p = absurd p
-operation_goes outer names steps name type at e (ops.Binary op x y) place k h t p =
+operation_goes alias al outer names steps name type at e (ops.Captured j) place k m h t p = absurd p
+operation_goes alias al outer names steps name type at e (ops.Linear c ts) place k m h t p =
+    let q = and_parts (is_elem e Index && is_in_range c) (list_all (term_fits at) ts) h in
+    let index : e ≡ Index = same_elem e Index (and_parts (is_elem e Index) (is_in_range c) q.0).0 in
+    let read = subst (λ o. AllByRecursion (MapRead alias al) (listed o)) (has_step_map c ts p) m in
+    subst (λ o. operation_of alias outer None (inside names steps) ((linear_if al name o ts).tree place) ≡ Ok (inside names steps, record { ty = e; op = ops.Linear c ts })) (sym (has_step_map c ts p))
+    (apply_goes alias al outer names steps name type at c ts place k read.0 q.1 ∙ ap (λ u. Ok (inside names steps, record { ty = u; op = ops.Linear c ts })) (sym index))
+operation_goes alias al outer names steps name type at e (ops.Binary op x y) place k m h t p =
     let q = and_parts (has_type (at x) e) (has_type (at y) e) h in
     let a = k x e (found_type (at x) e q.0) in
     let b = k y e (found_type (at y) e q.1) in
     rw (binary_read op, a.0, b.0, a.1) refl
-operation_goes outer names steps name type at e (ops.Compare c x y) place k h t p =
+operation_goes alias al outer names steps name type at e (ops.Compare c x y) place k m h t p =
     let q = and_parts (is_elem e (Int 1)) (have_one_type (at x) (at y)) h in
     let f = one_found (at x) (at y) q.1 in
     let a = k x f.0 f.1 in
     let b = k y f.0 f.2 in
-    compare_goes outer names steps name type c x y e f.0 place a.0 b.0 a.1 a.2 (sym (same_elem e (Int 1) q.0))
-operation_goes outer names steps name type at e (ops.Select c x y) place k h t p =
+    compare_goes alias al outer names steps name type c x y e f.0 place a.0 b.0 a.1 a.2 (sym (same_elem e (Int 1) q.0))
+operation_goes alias al outer names steps name type at e (ops.Select c x y) place k m h t p =
     let q = and_parts (has_type (at c) (Int 1) && has_type (at x) e) (has_type (at y) e) h in
     let u = and_parts (has_type (at c) (Int 1)) (has_type (at x) e) q.0 in
     let z = k c (Int 1) (found_type (at c) (Int 1) u.0) in
     let a = k x e (found_type (at x) e u.1) in
     let b = k y e (found_type (at y) e q.1) in
     rw (z.0, a.0, b.0, a.1) refl
-operation_goes outer names steps name type at e (ops.SignExtend x) place k h t p =
+operation_goes alias al outer names steps name type at e (ops.SignExtend x) place k m h t p =
     let f = widening_found (at x) e h in
     let a = k x f.0 f.1 in
     let i = from_integer f.0 e f.2 in
     rw (cast_read changes.SignExtend, a.0, a.2, a.1, i, good_read e (elem_good e t), f.2) refl
-operation_goes outer names steps name type at e (ops.ZeroExtend x) place k h t p =
+operation_goes alias al outer names steps name type at e (ops.ZeroExtend x) place k m h t p =
     let f = widening_found (at x) e h in
     let a = k x f.0 f.1 in
     let i = from_integer f.0 e f.2 in
     rw (cast_read changes.ZeroExtend, a.0, a.2, a.1, i, good_read e (elem_good e t), f.2) refl
-operation_goes outer names steps name type at e (ops.Truncate x) place k h t p =
+operation_goes alias al outer names steps name type at e (ops.Truncate x) place k m h t p =
     let f = narrowing_found (at x) e h in
     let a = k x f.0 f.1 in
     let i = to_integer f.0 e f.2 in
     rw (cast_read changes.Truncate, a.0, a.2, a.1, i, good_read e (elem_good e t), f.2) refl
-operation_goes outer names steps name type at e (ops.IndexCast x) place k h t p =
+operation_goes alias al outer names steps name type at e (ops.IndexCast x) place k m h t p =
     let f = cast_found (at x) e h in
     let a = k x f.0 f.1 in
     rw (a.0, a.2, a.1, good_read e (elem_good e t), f.2) refl
@@ -304,20 +375,25 @@ operation_goes outer names steps name type at e (ops.IndexCast x) place k h t p 
 abbrev types_of : List ElemTy → ElemTy → List PayloadStep → Arg → List ℕ
 types_of ins out all x = elem_or (arg_type ins out all x)
 
-step_goes : (outer env : List Entry) (earlier : List PayloadStep) (name : Arg → Given) (type : Arg → List ℕ) (k : ℕ) (t : PayloadStep) (x : Step) (place : ℕ) → x ≡ (step_at name type k t.ty t.op).tree place
-    → find outer (given_text (name (StepArg k))) ≡ None → find env (given_text (name (StepArg k))) ≡ None → nat_lt (length earlier) 1024 ≡ true → ((at : ℕ) → operation_of outer (inside env earlier) ((operation_at name type t.ty t.op).tree at) ≡ Ok (inside env earlier, t))
-    → step_of outer (inside env earlier) x ≡ Ok (with_step (inside env earlier) (given_text (name (StepArg k))) t)
-step_goes outer env earlier name type k t x place e far none lt op = rw (e, far, none, lt, op _) refl
+step_goes : (alias : List AliasShape) (al : List MapShape) (outer env : List Entry) (earlier : List PayloadStep) (name : Arg → Given) (type : Arg → List ℕ) (k : ℕ) (t : PayloadStep) (x : Step) (place : ℕ) → x ≡ (step_at al name type k t.ty t.op).tree place
+    → find outer (given_text (name (StepArg k))) ≡ None → find env (given_text (name (StepArg k))) ≡ None → nat_lt (length earlier) 1024 ≡ true → ((at : ℕ) → operation_of alias outer None (inside env earlier) ((operation_at al name type t.ty t.op).tree at) ≡ Ok (inside env earlier, t))
+    → step_of alias outer None (inside env earlier) x ≡ Ok (with_step (inside env earlier) (given_text (name (StepArg k))) t)
+step_goes alias al outer env earlier name type k t x place e far none lt op = rw (e, far, none, lt, op _) refl
 
-steps_go : (a n r b k c : ℕ) (ins : List ElemTy) (out : ElemTy) (all ss earlier : List PayloadStep) (outer env : List Entry) (xs : List Step)
-    → all ≡ earlier ++ ss → c ≡ r + k → k ≡ length earlier → b < 2 ^ 64 → c + length ss < 2 ^ 64 → k + length ss ≤ 1024 → AreCanon b c outer → AreCanon b c env → LocalsHeld (local_name a n r) env ins out earlier → steps_fit ins out ss earlier ≡ true → AllByRecursion IsPrintableStep ss
-    → Laid (steps_at (local_name a n r) (types_of ins out all) k ss) xs → (env2 : List Entry) × (steps_of outer (inside env earlier) xs ≡ Ok (inside env2 (earlier ++ ss))) × LocalsHeld (local_name a n r) env2 ins out (earlier ++ ss)
-steps_go a n r b k c ins out all [] earlier outer env [] ends ce ke sb sc le away canon h f s l =
+no_stop : (xs : List Step) → stop_behind None xs ≡ None
+no_stop [] = refl
+no_stop (x ∷ xs) = refl
+
+steps_go : (alias : List AliasShape) (al : List MapShape) (a n r b k c : ℕ) (ins : List ElemTy) (out : ElemTy) (all ss earlier : List PayloadStep) (outer env : List Entry) (xs : List Step)
+    → all ≡ earlier ++ ss → c ≡ r + k → k ≡ length earlier → b < 2 ^ 64 → c + length ss < 2 ^ 64 → k + length ss ≤ 1024 → AreCanon b c outer → AreCanon b c env → LocalsHeld (local_name a n r) env ins out earlier → steps_fit ins out ss earlier ≡ true → AllByRecursion IsPrintableStep ss → AllByRecursion (MapRead alias al) (steps_maps ss)
+    → Laid (steps_at al (local_name a n r) (types_of ins out all) k ss) xs → (env2 : List Entry) × (steps_of alias outer None (inside env earlier) xs ≡ Ok (inside env2 (earlier ++ ss))) × LocalsHeld (local_name a n r) env2 ins out (earlier ++ ss)
+steps_go alias al a n r b k c ins out all [] earlier outer env [] ends ce ke sb sc le away canon h f s m l =
     let e = sym (append-nil earlier) in
     (env, ap (λ (ps : List PayloadStep). Ok (inside env ps)) e, subst (λ (ps : List PayloadStep). LocalsHeld (local_name a n r) env ins out ps) e h)
-steps_go a n r b k c ins out all [] earlier outer env (x ∷ xs) ends ce ke sb sc le away canon h f s l = absurd l
-steps_go a n r b k c ins out all (t ∷ ss) earlier outer env [] ends ce ke sb sc le away canon h f s l = absurd l
-steps_go a n r b k c ins out all (t ∷ ss) earlier outer env (x ∷ xs) ends ce ke sb sc le away canon h f s l =
+steps_go alias al a n r b k c ins out all [] earlier outer env (x ∷ xs) ends ce ke sb sc le away canon h f s m l = absurd l
+steps_go alias al a n r b k c ins out all (t ∷ ss) earlier outer env [] ends ce ke sb sc le away canon h f s m l = absurd l
+steps_go alias al a n r b k c ins out all (t ∷ ss) earlier outer env (x ∷ xs) ends ce ke sb sc le away canon h f s m l =
+    let maps = all_split (MapRead alias al) (listed (step_map t.op)) (steps_maps ss) m in
     let small : Small b c = record { args = sb; results = omega arith } in
     let e : result_name (r + k) ≡ result_name c = ap result_name (sym ce) in
     let none : find env (result_name (r + k)) ≡ None = ap (find env) e ∙ fresh_result b c env small canon in
@@ -326,8 +402,8 @@ steps_go a n r b k c ins out all (t ∷ ss) earlier outer env (x ∷ xs) ends ce
     let typed : ArgsHeld (local_name a n r) (types_of ins out all) env (arg_type ins out earlier) = λ y u q. let o = h y u q in (o.0, o.1, arg_text ins out earlier (t ∷ ss) all y u ends q) in
     let good = elem_good t.ty s.0.ty in
     let lt : nat_lt (length earlier) 1024 ≡ true = lt-ltb (length earlier) 1024 (omega arith) in
-    let op = λ (place : ℕ). operation_goes outer env earlier (local_name a n r) (types_of ins out all) (arg_type ins out earlier) t.ty t.op place typed p.0 s.0.ty s.0.op in
-    let one = step_goes outer env earlier (local_name a n r) (types_of ins out all) k t x (l.0.0 + 7) l.0.1 far none lt op in
+    let op = λ (place : ℕ). operation_goes alias al outer env earlier (local_name a n r) (types_of ins out all) (arg_type ins out earlier) t.ty t.op place typed maps.0 p.0 s.0.ty s.0.op in
+    let one = step_goes alias al outer env earlier (local_name a n r) (types_of ins out all) k t x (l.0.0 + 7) l.0.1 far none lt op in
     let held = find_new env (result_name (r + k)) (Local (StepArg (length earlier)) t.ty) none in
     let here : HeldIn (local_name a n r) (grown env (result_name (r + k)) (StepArg (length earlier)) t.ty) (StepArg (length earlier)) t.ty = ap (λ j. find (grown env (result_name (r + k)) (StepArg (length earlier)) t.ty) (result_name (r + j))) (sym ke) ∙ held in
     let more_held = locals_last (local_name a n r) env (entry (result_name (r + k)) (Local (StepArg (length earlier)) t.ty) ∷ []) ins out earlier t h here good in
@@ -336,26 +412,28 @@ steps_go a n r b k c ins out all (t ∷ ss) earlier outer env (x ∷ xs) ends ce
     let len : suc k ≡ length (earlier ++ t ∷ []) = omega (arith, length-append earlier (t ∷ [])) in
     let z : k + 1 ≡ suc k = omega arith in
     let longer : all ≡ (earlier ++ t ∷ []) ++ ss = ends ∙ sym (append_assoc earlier (t ∷ []) ss) in
-    let more = steps_go a n r b (suc k) (suc c) ins out all ss (earlier ++ t ∷ []) outer (grown env (result_name (r + k)) (StepArg (length earlier)) t.ty) xs longer (omega arith) len sb (omega arith) (omega arith) away2 canon2 more_held p.1 s.1
-    (subst (λ j. Laid (steps_at (local_name a n r) (types_of ins out all) j ss) xs) z l.1)
+    let more = steps_go alias al a n r b (suc k) (suc c) ins out all ss (earlier ++ t ∷ []) outer (grown env (result_name (r + k)) (StepArg (length earlier)) t.ty) xs longer (omega arith) len sb (omega arith) (omega arith) away2 canon2 more_held p.1 s.1 maps.1
+    (subst (λ j. Laid (steps_at al (local_name a n r) (types_of ins out all) j ss) xs) z l.1)
     in
     let same = append_assoc earlier (t ∷ []) ss in (
       more.0,
-      ap (λ (v : Answer Inside Fault). and_then v (λ n. steps_of outer n xs)) one ∙ more.1 ∙ ap (λ (ps : List PayloadStep). Ok (inside more.0 ps)) same,
+      ap (λ (o : Option ℕ). and_then (step_of alias outer o (inside env earlier) x) (λ n. steps_of alias outer None n xs)) (no_stop xs)
+          ∙ ap (λ (v : Answer Inside Fault). and_then v (λ n. steps_of alias outer None n xs)) one ∙ more.1 ∙ ap (λ (ps : List PayloadStep). Ok (inside more.0 ps)) same,
       subst (λ (ts : List PayloadStep). LocalsHeld (local_name a n r) more.0 ins out ts) same more.2,
     )
 
 -- ---- the region
 
-pub region_found : (outer : List Entry) (a r : ℕ) (p : PayloadShape) → AreCanon a r outer → a + length p.ins + 1 < 2 ^ 64 → r + length p.steps < 2 ^ 64 → length p.steps ≤ 1024 → AllByRecursion Good p.ins → Good p.out → payload_fits p ≡ true → AllByRecursion IsPrintableStep p.steps
-    → (at : ℕ) → payload_of outer p.ins p.out ((region_at a r p).tree at) ≡ Ok p
-region_found outer a r p canon sa sr le gs go f s at =
+pub region_found : (alias : List AliasShape) (al : List MapShape) (outer : List Entry) (a r : ℕ) (p : PayloadShape) → AreCanon a r outer → a + length p.ins + 1 < 2 ^ 64 → r + length p.steps < 2 ^ 64 → length p.steps ≤ 1024 → AllByRecursion Good p.ins → Good p.out → payload_fits p ≡ true → AllByRecursion IsPrintableStep p.steps → AllByRecursion (MapRead alias al) (steps_maps p.steps)
+    → (at : ℕ) → payload_of alias outer p.ins p.out ((region_at al a r p).tree at) ≡ Ok p
+region_found alias al outer a r p canon sa sr le gs go f s m at =
     let n = length p.ins in
     let q = and_parts (steps_fit p.ins p.out p.steps []) (has_type (arg_type p.ins p.out p.steps p.yielded) p.out) f in
     let b = block_goes a r p.ins p.out outer (at + 4 + 1) (omega arith) (omega arith) canon gs go in
     let wide = canon_more a r (a + length p.ins + 1) r (omega arith) (omega arith) outer canon in
-    let st = steps_go a (length p.ins) r (a + length p.ins + 1) 0 r p.ins p.out p.steps p.steps [] outer b.0 ((region_at a r p).tree at).steps refl (omega arith) refl sa sr (omega arith) wide b.2.canon
-    (locals_first (local_name a (length p.ins) r) (a + length p.ins + 1) r b.0 p.ins p.out b.2 gs go) q.0 s (each_laid (steps_at (local_name a (length p.ins) r) (type_in p) 0 p.steps) _)
+    let st = steps_go alias al a (length p.ins) r (a + length p.ins + 1) 0 r p.ins p.out p.steps p.steps [] outer b.0 ((region_at al a r p).tree at).steps refl (omega arith) refl sa sr (omega arith) wide b.2.canon
+    (locals_first (local_name a (length p.ins) r) (a + length p.ins + 1) r b.0 p.ins p.out b.2 gs go) q.0 s m (each_laid (steps_at al (local_name a (length p.ins) r) (type_in p) 0 p.steps) _)
     in
     let y = st.2 p.yielded p.out (found_type (arg_type p.ins p.out p.steps p.yielded) p.out q.1) in
-    rw (b.1, st.1, y.0, go) refl
+    let goes_on : nat_lt ((region_at al a r p).tree at).yield_name.start ((region_at al a r p).tree at).yielded.start ≡ true = lt-ltb _ _ (omega arith) in
+    rw (b.1, goes_on, st.1, y.0, go) refl

@@ -34,8 +34,8 @@ use Rattle.mlir_resolve.specs.Structured.{axis_of, typed_id, output_of, factors_
 use Rattle.mlir_resolve.specs.Operations.{kind_of, statement_of}
 use Rattle.mlir_print.specs.declared.names.Given.TheVariants.{Result}
 use Rattle.mlir_print.specs.Names.{Names, Row, look, spot, given_text, name_in, name_or, type_in, type_or, row_of}
-use Rattle.text_format.specs.Writers.{Writer, commas, after_comma}
-use Rattle.mlir_print.specs.Maps.{use_at, maps_used}
+use Rattle.text_format.specs.Writers.{Writer, commas}
+use Rattle.mlir_print.specs.Maps.{use_at, steps_maps, maps_used}
 use Rattle.mlir_print.specs.Generics.{iterator_at, next_input_at, next_type_at, inputs_at, output_at, operands_at, generic_at}
 use Rattle.mlir_print.specs.Structured.{fill_at, factors_at, moved_at, axis_at, transpose_at, broadcast_at}
 use Rattle.mlir_print.specs.Operations.{operation_at, line_at, names_after, inner_args, inner_results}
@@ -48,9 +48,10 @@ use Rattle.mlir_roundtrip.proofs.Readable.{readable}
 use Rattle.mlir_roundtrip.proofs.Usable.{Usable, usable}
 use Rattle.mlir_roundtrip.proofs.Values.{meaning_held}
 use Rattle.mlir_roundtrip.proofs.Numbers.{Good, decimal_value}
-use Rattle.mlir_roundtrip.proofs.MapUses.{MapsRead}
+use Rattle.mlir_roundtrip.proofs.Aliases.{MapRead}
+use Rattle.mlir_roundtrip.proofs.MapUses.{MapsRead, uses_read}
 use Rattle.mlir_roundtrip.proofs.ConstantsFound.{constant_found}
-use Rattle.mlir_roundtrip.proofs.Regions.{Laid, each_laid, all_last, canon_more, region_found}
+use Rattle.mlir_roundtrip.proofs.Regions.{Laid, each_laid, commas_laid, all_last, all_split, canon_more, region_found}
 
 -- what was found is still found
 held_more : (env more : List Entry) (q : List ℕ) (at : ℕ) (x : ℕ × Ty) → held at (find env q) ≡ Ok x → held at (find (env ++ more) q) ≡ Ok x
@@ -179,17 +180,6 @@ module _ (base : ℕ) where
   iterators_found k (i ∷ is) [] le l = absurd l
   iterators_found k (i ∷ is) (x ∷ xs) le l = rw (iterator_found k i x (lt-ltb k 12 (omega arith)) l.0.0 l.0.1, iterators_found (suc k) is xs (omega arith) l.1) refl
 
-  -- behind commas
-  after_laid : {A : Type 0} (ws : List (Writer A)) (xs : List A) → Laid (map after_comma ws) xs → Laid ws xs
-  after_laid [] [] l = tt
-  after_laid [] (x ∷ xs) l = absurd l
-  after_laid (w ∷ ws) [] l = absurd l
-  after_laid (w ∷ ws) (x ∷ xs) l = ((l.0.0 + 1 + 1, l.0.1), after_laid ws xs l.1)
-
-  pub commas_laid : {A : Type 0} (ws : List (Writer A)) (at : ℕ) → Laid ws ((commas ws).tree at)
-  commas_laid [] at = tt
-  commas_laid (w ∷ ws) at = ((at, refl), after_laid ws _ (each_laid (map after_comma ws) _))
-
   -- ---- operations
 
   row_good : (rows : List Row) (env : List Entry) → Agrees rows env → (v : ValueId) → IsDefined rows v → Good (elem_in rows v)
@@ -216,11 +206,11 @@ module _ (base : ℕ) where
   -- the parts of a generic operation, and the operation
   generic_goes : (alias : List AliasShape) (rows : List Row) (env : List Entry) (g : Generic) (maps : List MapShape) (its : List Iter) (ins : List ValueId) (out : ValueId) (p : PayloadShape) (ty : Ty)
       → each (map_of alias) g.maps ≡ Ok maps → iterators_from 0 g.iterators ≡ Ok its → operands_of env g.operands ≡ Ok (map (operand rows) ins, operand rows out) → p.ins ≡ map (elem_in rows) ins → p.out ≡ elem_in rows out
-      → payload_of env p.ins p.out g.region ≡ Ok p → type_at g.result_type ≡ Ok ty → generic_of alias env g ≡ Ok (ty, kinds.Generic maps its (map (number_in base rows) ins) (number_in base rows out) [] p)
+      → payload_of alias env p.ins p.out g.region ≡ Ok p → type_at g.result_type ≡ Ok ty → generic_of alias env g ≡ Ok (ty, kinds.Generic maps its (map (number_in base rows) ins) (number_in base rows out) [] p)
   generic_goes alias rows env g maps its ins out p ty read iters ops ei eo pay rd =
       let es : map (λ (o : ValueId × ElemTy). o.1) (map (operand rows) ins) ≡ p.ins = elems_of rows ins ∙ sym ei in
-      let here : payload_of env (map (λ (o : ValueId × ElemTy). o.1) (map (operand rows) ins)) (elem_in rows out) g.region ≡ Ok p =
-      subst (λ (ts : List ElemTy). payload_of env ts (elem_in rows out) g.region ≡ Ok p) (sym es) (subst (λ e. payload_of env p.ins e g.region ≡ Ok p) eo pay)
+      let here : payload_of alias env (map (λ (o : ValueId × ElemTy). o.1) (map (operand rows) ins)) (elem_in rows out) g.region ≡ Ok p =
+      subst (λ (ts : List ElemTy). payload_of alias env ts (elem_in rows out) g.region ≡ Ok p) (sym es) (subst (λ e. payload_of alias env p.ins e g.region ≡ Ok p) eo pay)
       in
       rw (read, iters, ops) (then_is _ p _ _ here (rw (rd, ids_of rows ins) refl))
 
@@ -283,9 +273,10 @@ module _ (base : ℕ) where
       let i = inner_few n.rows ty (kinds.Generic maps its ins out [] p) h in
       let gs = subst (λ (es : List ElemTy). AllByRecursion Good es) (sym h.ins_typed) (rows_good n.rows env s.agrees ins h.ins_defined) in
       let go = subst (λ e. Good e) (sym h.out_typed) (row_good n.rows env s.agrees out h.output.is_defined) in
-      let pay = region_found env n.args (n.results + 1) p canon (omega (arith, i.0)) (omega (arith, i.1)) h.few_steps gs go h.payload h.steps in
+      let names = all_split (MapRead alias al) maps (steps_maps p.steps) ms in
+      let pay = region_found alias al env n.args (n.results + 1) p canon (omega (arith, i.0)) (omega (arith, i.1)) h.few_steps gs go h.payload h.steps names.1 in
       let rd = readable ty h.result in
-      generic_goes alias n.rows env g maps its ins out p ty (ms g.maps (commas_laid (map (use_at al) maps) _)) (iterators_found 0 its g.iterators (omega (arith, h.few_iterators)) (commas_laid (map iterator_at its) _))
+      generic_goes alias n.rows env g maps its ins out p ty (uses_read alias al maps names.0 g.maps (commas_laid (map (use_at al) maps) _)) (iterators_found 0 its g.iterators (omega (arith, h.few_iterators)) (commas_laid (map iterator_at its) _))
       (operands_found n.rows env s.agrees ins out h.ins_defined h.output.is_defined h.few _) h.ins_typed h.out_typed (pay (region_place al n.rows maps its ins out at)) (rd.shaped _)
   kind_found alias al n env k ty (kinds.Fill v out) s canon b lt ms h at =
       let f = (fill_at n.rows ty v out).tree at in

@@ -1,16 +1,24 @@
 -- A text that is not too long has short maps, and few at one operation.
-use Rattle.std.proofs.Common.{◌≡◌, ◌≤◌, ◌^◌, List, [], ◌∷◌, ◌++◌, length, map, arith, length-append}
+use Rattle.std.proofs.Common.{◌≡◌, ◌<◌, ◌≤◌, ◌^◌, ◌+◌, List, [], ◌∷◌, ◌++◌, length, map, Option, Some, None, arith, length-append}
 use Rattle.std.specs.List.{AllByRecursion}
 use Rattle.std.proofs.lemmas.List.{length-map}
 use Rattle.text_format.specs.Token.{TokenShape}
 use Rattle.text_format.specs.declared.class.Class.TheVariants.{Exactly}
-use Rattle.text_format.specs.declared.lexeme.Lexeme.TheVariants.{Greater, Comma, CloseParenthesis, CloseBracket}
+use Rattle.text_format.specs.declared.lexeme.Lexeme.{Lexeme}
+use Rattle.text_format.specs.declared.lexeme.Lexeme.TheVariants.{Greater, Comma, OpenParenthesis, CloseParenthesis, CloseBracket}
 use Rattle.text_format.specs.Formats.{Item, Fixed, Leaf, spell_some, spell_many, list_before, ◌▸◌}
 use Rattle.text_format.specs.Laws.{Matches}
 use Rattle.mlir_syntax.specs.declared.tree.maps.MapPiece.{MapPiece}
 use Rattle.mlir_syntax.specs.declared.tree.maps.WrittenMap.{WrittenMap}
 use Rattle.mlir_syntax.specs.declared.tree.maps.MapUse.{MapUse}
 use Rattle.mlir_syntax.specs.declared.tree.maps.MapUse.TheVariants as uses
+use Rattle.mlir_syntax.specs.declared.tree.steps.ApplyOperand.{ApplyOperand}
+use Rattle.mlir_syntax.specs.declared.tree.steps.ApplySymbols.{ApplySymbols}
+use Rattle.mlir_syntax.specs.declared.tree.steps.ApplyStep.{ApplyStep}
+use Rattle.mlir_syntax.specs.declared.tree.steps.StepOperation.{StepOperation}
+use Rattle.mlir_syntax.specs.declared.tree.steps.StepOperation.TheVariants as step_operations
+use Rattle.mlir_syntax.specs.declared.tree.payloads.Step.{Step}
+use Rattle.mlir_syntax.specs.declared.tree.payloads.Region.{Region}
 use Rattle.mlir_syntax.specs.declared.tree.generics.Generic.{Generic}
 use Rattle.mlir_syntax.specs.declared.tree.operations.Operation.{Operation}
 use Rattle.mlir_syntax.specs.declared.tree.operations.Operation.TheVariants as operations
@@ -25,10 +33,13 @@ use Rattle.mlir_syntax.specs.declared.tree.files.Item as items
 use Rattle.mlir_syntax.specs.declared.tree.files.Item.TheVariants as kinds
 use Rattle.mlir_syntax.specs.declared.tree.files.Text.{Text}
 use Rattle.mlir_syntax.specs.Maps as map_grammar
+use Rattle.mlir_syntax.specs.Steps as step_grammar
+use Rattle.mlir_syntax.specs.Payloads as payload_grammar
 use Rattle.mlir_syntax.specs.Generics as generic_grammar
 use Rattle.mlir_syntax.specs.Operations as operation_grammar
 use Rattle.mlir_syntax.specs.Files as file_grammar
 use Rattle.mlir_resolve.specs.Maps.{tokens_of}
+use Rattle.mlir_resolve.specs.Steps.{symbol_operands}
 
 pub record Short (is : List Item) : Type 0 where
   pub few : length is ≤ 2 ^ 32
@@ -108,15 +119,85 @@ uses_short (u ∷ us) h =
       few = omega (arith, few, a, b, c, d);
     }
 
+-- ---- payloads
+
+more_operands : (os : List ApplyOperand) → length os ≤ length (spell_many (Comma ▸ step_grammar.apply_operand) os)
+unfolding step_grammar.apply_operand
+more_operands [] = omega arith
+more_operands (o ∷ os) = let h = more_operands os in omega (arith, h)
+
+listed_operands : (close : Lexeme) (os : List ApplyOperand) → length os ≤ length ((list_before close step_grammar.apply_operand).spell os)
+unfolding list_before step_grammar.apply_operand
+listed_operands close [] = omega arith
+listed_operands close (o ∷ os) =
+    let h = more_operands os in
+    let a = length-append (spell_many (Comma ▸ step_grammar.apply_operand) os) (Fixed close ∷ []) in
+    omega (arith, h, a)
+
+bracket_operands : (o : Option ApplySymbols) → length (symbol_operands o) ≤ length (spell_some step_grammar.apply_symbols o)
+unfolding step_grammar.apply_symbols
+bracket_operands None = omega arith
+bracket_operands (Some s) = let h = listed_operands CloseBracket s.operands in omega (arith, h)
+
+-- a linear step has few operands
+abbrev pub IsShortApply : ApplyStep → Type 0
+IsShortApply a = length a.operands + length (symbol_operands a.symbols) < 2 ^ 32
+
+apply_short : (a : ApplyStep) → Short (step_grammar.apply_step.spell a) → IsShortApply a
+unfolding step_grammar.apply_step
+apply_short a h =
+    let few = h.few in
+    let b = listed_operands CloseParenthesis a.operands in
+    let c = bracket_operands a.symbols in
+    let d = length-append (map_grammar.map_use.spell a.map) (Fixed OpenParenthesis ∷ (list_before CloseParenthesis step_grammar.apply_operand).spell a.operands) in
+    let e = length-append (map_grammar.map_use.spell a.map ++ Fixed OpenParenthesis ∷ (list_before CloseParenthesis step_grammar.apply_operand).spell a.operands) (spell_some step_grammar.apply_symbols a.symbols) in
+    omega (arith, few, b, c, d, e)
+
+abbrev pub IsShortStepOperation : StepOperation → Type 0
+IsShortStepOperation (step_operations.Apply a) = IsShortApply a
+IsShortStepOperation o = Unit {0}
+
+step_operation_short : (o : StepOperation) → Short (step_grammar.step_operation.spell o) → IsShortStepOperation o
+unfolding step_grammar.step_operation
+step_operation_short (step_operations.Apply a) h = apply_short a h
+step_operation_short o h = tt
+
+abbrev pub IsShortStep : Step → Type 0
+IsShortStep s = IsShortStepOperation s.operation
+
+step_short : (s : Step) → Short (payload_grammar.step.spell s) → IsShortStep s
+unfolding payload_grammar.step
+step_short s h = step_operation_short s.operation (tail (tail h))
+
+steps_short : (ss : List Step) → Short (spell_many payload_grammar.step ss) → AllByRecursion IsShortStep ss
+steps_short [] h = tt
+steps_short (s ∷ ss) h = (step_short s (left (payload_grammar.step.spell s) (spell_many payload_grammar.step ss) h), steps_short ss (right (payload_grammar.step.spell s) (spell_many payload_grammar.step ss) h))
+
+region_short : (r : Region) → Short (payload_grammar.region.spell r) → AllByRecursion IsShortStep r.steps
+unfolding payload_grammar.region
+region_short r h = steps_short r.steps (left (spell_many payload_grammar.step r.steps) _ (tail (right (payload_grammar.block_args.spell r.args) _ (tail (tail h)))))
+
 -- ---- operations, functions and files
 
+pub record IsShortGeneric (g : Generic) : Type 0 where
+  pub maps : AreShortUses g.maps
+  pub steps : AllByRecursion IsShortStep g.region.steps
+
 abbrev pub IsShortOperation : Operation → Type 0
-IsShortOperation (operations.Generic g) = AreShortUses g.maps
+IsShortOperation (operations.Generic g) = IsShortGeneric g
 IsShortOperation o = Unit {0}
 
-generic_short : (g : Generic) → Short (generic_grammar.generic.spell g) → AreShortUses g.maps
+generic_short : (g : Generic) → Short (generic_grammar.generic.spell g) → IsShortGeneric g
 unfolding generic_grammar.generic
-generic_short g h = uses_short g.maps (left ((list_before CloseBracket map_grammar.map_use).spell g.maps) _ (tail (tail (tail (tail (tail h))))))
+generic_short g h =
+    let maps = tail (tail (tail (tail (tail h)))) in
+    let iterators = tail (tail (tail (tail (right ((list_before CloseBracket map_grammar.map_use).spell g.maps) _ maps)))) in
+    let operands = tail (right ((list_before CloseBracket generic_grammar.iterator_type).spell g.iterators) _ iterators) in
+    let region = tail (right (generic_grammar.operands.spell g.operands) _ operands) in
+    record {
+      maps = uses_short g.maps (left ((list_before CloseBracket map_grammar.map_use).spell g.maps) _ maps);
+      steps = region_short g.region (left (payload_grammar.region.spell g.region) _ region);
+    }
 
 operation_short : (o : Operation) → Short (operation_grammar.operation.spell o) → IsShortOperation o
 unfolding operation_grammar.operation

@@ -15,17 +15,18 @@ use Rattle.mlir_ir.specs.declared.tree.OpKind.{OpKind}
 use Rattle.mlir_ir.specs.declared.tree.OpKind.TheVariants as kinds
 use Rattle.text_format.specs.declared.class.Class.TheVariants as classes
 use Rattle.text_format.specs.declared.class.Position.TheVariants as places
-use Rattle.text_format.specs.declared.front.Kind.TheVariants.{Shaped}
+use Rattle.text_format.specs.declared.front.Kind.TheVariants.{Shaped, Alias}
 use Rattle.text_format.specs.declared.lexeme.Lexeme.{Lexeme}
 use Rattle.text_format.specs.declared.lexeme.Lexeme.TheVariants as lexemes
 use Rattle.text_format.specs.Lexemes.{lexeme_kind, lexeme_text}
 use Rattle.text_format.specs.Pieces.{Piece, Gap, Fixed, Leaf}
-use Rattle.text_format.proofs.Spacing.{IsApart, result_name, decimal_name, lexeme_name, none_apart, none_opens, space, fixed_closed, fixed_word, leaf_name, leaf_closed, append_apart, append_opens, space_opens, fixed_opens, quoted_closed, is_minus}
+use Rattle.text_format.proofs.Spacing.{IsName, IsApart, result_name, decimal_name, lexeme_name, none_apart, none_opens, space, fixed_closed, fixed_word, leaf_name, leaf_closed, append_apart, append_opens, space_opens, fixed_opens, quoted_closed, is_minus}
 use Rattle.mlir_resolve.specs.Types.{elem_of}
 use Rattle.mlir_print.specs.declared.names.Given.TheVariants.{Result}
 use Rattle.mlir_print.specs.Types.{ty_text}
 use Rattle.mlir_print.specs.Names.{Names, Row, row_of}
-use Rattle.mlir_print.specs.Maps.{use_at, maps_used}
+use Rattle.mlir_print.specs.Maps.{use_at, steps_maps, maps_used, alias_of}
+use Rattle.mlir_roundtrip.proofs.Regions.{all_split}
 use Rattle.text_format.specs.Writers.{each_of, commas}
 use Rattle.mlir_print.specs.Payloads.{region_at}
 use Rattle.mlir_print.specs.Generics.{iterator_at, next_input_at, next_type_at, input_types_at, inputs_at, output_at, operands_at, generic_at}
@@ -103,13 +104,13 @@ close_region : (ty : Ty) → IsTensorType ty → IsApart (Gap (codes "\n    ") �
 close_region ty t = line_four (fixed_closed lexemes.CloseBrace refl (space (arrow_type ty t)))
 
 generic_apart : (al : List MapShape) (rows : List Row) (a r : ℕ) (ty : Ty) (ms : List MapShape) (its : List Iter) (ins : List ValueId) (out : ValueId) (p : PayloadShape)
-    → RowsFit rows → IsTensorType ty → AreNamed al ms → AreDefined rows ins → IsTensorValue rows out → PayloadSmall a r p → IsApart (generic_at al rows a r ty ms its ins out p).pieces
+    → RowsFit rows → IsTensorType ty → AreNamed al ms → AreDefined rows ins → IsTensorValue rows out → PayloadSmall al a r p → IsApart (generic_at al rows a r ty ms its ins out p).pieces
 generic_apart al rows a r ty ms its ins out p f t named ds dd s =
     name_apart lexemes.LinalgGeneric refl (fixed_closed lexemes.OpenBrace refl (fixed_word lexemes.IndexingMaps refl space_opens (space (fixed_closed lexemes.Equals refl (space (fixed_closed lexemes.OpenBracket refl
     (append_apart (commas (map (use_at al) ms)).pieces _ (commas_apart (map (use_at al) ms) (uses_apart al ms named)) (fixed_opens lexemes.CloseBracket refl)
     (behind_uses (append_apart (commas (map iterator_at its)).pieces _ (commas_apart (map iterator_at its) (iterators_apart its)) (fixed_opens lexemes.CloseBracket refl) (fixed_closed lexemes.CloseBracket refl (fixed_closed lexemes.CloseBrace refl (space
     (append_apart (operands_at rows ins out).pieces _ (operands_apart rows f ins out ds dd) space_opens (space (fixed_closed lexemes.OpenBrace refl (line_four
-    (append_apart (region_at a r p).pieces _ (region_apart a r p s) four_opens (close_region ty t))))))))))))))))))
+    (append_apart (region_at al a r p).pieces _ (region_apart al a r p s) four_opens (close_region ty t))))))))))))))))))
 
 -- ---- structured operations with a name of their own
 
@@ -195,8 +196,9 @@ kind_apart al n k ty (kinds.Generic maps its ins out [] p) lt b f named h =
     let i = inner_few n.rows ty (kinds.Generic maps its ins out [] p) h in
     let si = subst (λ (es : List ElemTy). AllByRecursion IsSmallElem es) (sym h.ins_typed) (defined_elems n.rows f ins h.ins_defined) in
     let so = subst (λ e. IsSmallElem e) (sym h.out_typed) (defined_elem n.rows f out h.output.is_defined) in
-    let ps = payload_small n.args (n.results + 1) p (omega (arith, i.0)) (omega (arith, i.1)) si so h.payload h.steps in
-    generic_apart al n.rows n.args (n.results + 1) ty maps its ins out p f h.result named h.ins_defined h.output ps
+    let names = all_split (λ m. IsName Alias (alias_of al m)) maps (steps_maps p.steps) named in
+    let ps = payload_small al n.args (n.results + 1) p (omega (arith, i.0)) (omega (arith, i.1)) si so names.1 h.payload h.steps in
+    generic_apart al n.rows n.args (n.results + 1) ty maps its ins out p f h.result names.0 h.ins_defined h.output ps
 kind_apart al n k ty (kinds.Fill v out) lt b f named h = fill_apart n.rows f ty v out h
 kind_apart al n k ty (kinds.Matmul x y out) lt b f named h = name_apart lexemes.LinalgMatmul refl (factors_apart n.rows f ty x y out h)
 kind_apart al n k ty (kinds.BatchMatmul x y out) lt b f named h = name_apart lexemes.LinalgBatchMatmul refl (factors_apart n.rows f ty x y out h)

@@ -116,7 +116,7 @@ generic-w : (al : List MapShape) (rows : List Row) (a r : ℕ) (ty : Ty) (ms : L
 unfolding generic_grammar.generic
 generic-w al rows a r ty ms its ins out p h = made-w _ _ (λ _. refl) (pair-w (put-w _ _ _) (sp-w (lay-w lexemes.OpenBrace (lay-w lexemes.IndexingMaps (sp-w (lay-w lexemes.Equals (sp-w (lay-w lexemes.OpenBracket (list-w lexemes.CloseBracket map_grammar.map_use (map (use_at al) ms) (uses-w al ms)
     (lay-w lexemes.Comma (sp-w (lay-w lexemes.IteratorTypes (sp-w (lay-w lexemes.Equals (sp-w (lay-w lexemes.OpenBracket (list-w lexemes.CloseBracket generic_grammar.iterator_type (map iterator_at its) (iterators-w its)
-    (lay-w lexemes.CloseBrace (sp-w (pair-w (operands-w rows ins out) (sp-w (lay-w lexemes.OpenBrace (gap-w _ (pair-w (region-w a r p h) (gap-w _ (lay-w lexemes.CloseBrace (sp-w (lay-w lexemes.Arrow (sp-w (put-w _ _ _))))))))))))))))))))))))))))))
+    (lay-w lexemes.CloseBrace (sp-w (pair-w (operands-w rows ins out) (sp-w (lay-w lexemes.OpenBrace (gap-w _ (pair-w (region-w al a r p h) (gap-w _ (lay-w lexemes.CloseBrace (sp-w (lay-w lexemes.Arrow (sp-w (put-w _ _ _))))))))))))))))))))))))))))))
 
 -- ---- structured operations with a name of their own
 

@@ -99,12 +99,12 @@ abbrev pub elem_in : List Row → ValueId → ElemTy
 elem_in rows v = elem_of (row_in rows v).ty
 
 -- an operation of a step that a text spells, with a value of this type. A constant of index lies within plus and minus 2^31,
--- and a dimension from 0 to 1,048,576; no captured value and no linear step is written yet
+-- and a dimension from 0 to 1,048,576; the map of a linear step has a dimension for each term; no captured value is written yet
 abbrev pub IsPrintableOp : ElemTy → StepOp → Type 0
 IsPrintableOp e (ops.Const v) = is_near e v ≡ true
 IsPrintableOp e (ops.Index k) = k ≤ 1048576
 IsPrintableOp e (ops.Captured k) = ⊥
-IsPrintableOp e (ops.Linear c ts) = ⊥
+IsPrintableOp e (ops.Linear c ts) = length ts < 2 ^ 32
 IsPrintableOp e o = Unit {0}
 
 -- a step whose type is i1 to i64, or index

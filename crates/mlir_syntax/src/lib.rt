@@ -9,13 +9,13 @@ mod tree;
 mod whole;
 
 pub use tree::{
-    AliasLine, BatchMatmul, BinaryStep, BlockArg, BlockArgs, Broadcast, CastStep, CompareStep,
-    Constant, ConstantStep, Conversion, DenseLiteral, DensePiece, Empty, Enclosed, Factors, Fill,
-    Function, FunctionsEnd, Generic, IndexCastStep, IndexStep, InputTypes, Inputs, Item,
-    IteratorType, Literal, MapPiece, MapUse, Matmul, ModuleAttributes, ModuleRest, NextArg,
-    NextInput, NextResult, NextType, NextValue, Operands, Operation, Output, Param, Region,
-    ResultTypes, ReturnName, ReturnType, Returned, ReturnedValues, ScalarLiteral, ScriptModule,
-    SelectStep, SeveralResults, Sign, SignedNumber, SourceAndOutput, Statement, Step,
+    AliasLine, ApplyOperand, ApplyStep, ApplySymbols, BatchMatmul, BinaryStep, BlockArg, BlockArgs,
+    Broadcast, CastStep, CompareStep, Constant, ConstantStep, Conversion, DenseLiteral, DensePiece,
+    Empty, Enclosed, Factors, Fill, Function, FunctionsEnd, Generic, IndexCastStep, IndexStep,
+    InputTypes, Inputs, Item, IteratorType, Literal, MapPiece, MapUse, Matmul, ModuleAttributes,
+    ModuleRest, NextArg, NextInput, NextResult, NextType, NextValue, Operands, Operation, Output,
+    Param, Region, ResultTypes, ReturnName, ReturnType, Returned, ReturnedValues, ScalarLiteral,
+    ScriptModule, SelectStep, SeveralResults, Sign, SignedNumber, SourceAndOutput, Statement, Step,
     StepOperation, Text, Transpose, TypedNumber, WrittenMap,
 };
 pub use whole::read_tree;

@@ -27,7 +27,7 @@ pub use maps::{MapPiece, MapUse, WrittenMap};
 pub use operations::{Empty, Operation, Statement};
 pub use payloads::{BlockArg, BlockArgs, NextArg, Region, Step};
 pub use steps::{
-    BinaryStep, CastStep, CompareStep, ConstantStep, Conversion, IndexCastStep, IndexStep,
-    SelectStep, StepOperation,
+    ApplyOperand, ApplyStep, ApplySymbols, BinaryStep, CastStep, CompareStep, ConstantStep,
+    Conversion, IndexCastStep, IndexStep, SelectStep, StepOperation,
 };
 pub use structured::{BatchMatmul, Broadcast, Factors, Fill, Matmul, SourceAndOutput, Transpose};

@@ -6,7 +6,7 @@ use Rattle.text_format.specs.declared.lexeme.Lexeme.TheVariants.{Comma}
 use Rattle.text_format.specs.declared.class.Class.{Class}
 use Rattle.text_format.specs.declared.class.Class.TheVariants.{Exactly}
 use Rattle.text_format.specs.Formats.{State, sees, after_fixed, Format, ◌▸◌, onto, many_in, weight, many_at, list_before}
-use Rattle.text_format.specs.Laws.{IsExact, begins}
+use Rattle.text_format.specs.Laws.{Reads, begins}
 use Rattle.text_format.specs.Many.{lighter, many_any, many_none, many_once}
 
 -- what was read before, and what is still read
@@ -17,14 +17,14 @@ with_front front r = (front ++ r.0, r.1)
 abbrev pub list_at : {A : Type 0} → Format A → State → List A × State
 list_at f s = onto (f.read s).0 (many_at (Exactly Comma) (Comma ▸ f) (f.read s).1)
 
-unrolled : {A : Type 0} (f : Format A) → IsExact f → (c : Class) → ((x : A) → begins c (f.spell x) ≡ true) → (n : ℕ) (s : State) → weight s ≡ n → sees c s ≡ true → many_in c f n s ≡ onto (f.read s).0 (many_at c f (f.read s).1)
+unrolled : {A : Type 0} (f : Format A) → Reads f → (c : Class) → ((x : A) → begins c (f.spell x) ≡ true) → (n : ℕ) (s : State) → weight s ≡ n → sees c s ≡ true → many_in c f n s ≡ onto (f.read s).0 (many_at c f (f.read s).1)
 unrolled f p c first zero s len e = let h = lighter f p c first s e in absurd (omega (arith, h, len))
 unrolled f p c first (suc n) s len e =
     let h = lighter f p c first s e in
     many_once f c n s e ∙ ap (onto (f.read s).0) (many_any f p c first n (weight (f.read s).1) (f.read s).1 (omega (arith, h, len)) (omega arith))
 
 -- one more item
-pub goes_on : {A : Type 0} (f : Format A) → IsExact f → (c : Class) → ((x : A) → begins c (f.spell x) ≡ true) → (front : List A) (s new : State) (x : A) (total : List A × State)
+pub goes_on : {A : Type 0} (f : Format A) → Reads f → (c : Class) → ((x : A) → begins c (f.spell x) ≡ true) → (front : List A) (s new : State) (x : A) (total : List A × State)
     → sees c s ≡ true → (x, new) ≡ f.read s → with_front front (many_at c f s) ≡ total → with_front (front ++ x ∷ []) (many_at c f new) ≡ total
 goes_on f p c first front s new x total e r so_far =
     let one : many_at c f s ≡ onto x (many_at c f new) = unrolled f p c first (weight s) s refl e ∙ ap (λ y. onto y.0 (many_at c f y.1)) (sym r) in

@@ -90,14 +90,14 @@ last_step : {B : Type 0} (g : Format B) → IsExact g → (s : State) (b : Bool)
 last_step g q s true = q.reads s
 last_step g q s false = nothing s.stop s.end s.rest
 
-last_reads : {B : Type 0} (c : Class) (g : Format B) → IsExact g → (s : State) → Consumes (spell_some g (optional_at c g s).0) s (optional_at c g s).1
+pub last_reads : {B : Type 0} (c : Class) (g : Format B) → IsExact g → (s : State) → Consumes (spell_some g (optional_at c g s).0) s (optional_at c g s).1
 unfolding optional_at
 last_reads c g q s = last_step g q s (sees c s)
 
 last_forward : {B : Type 0} (c : Class) (g : Format B) → IsExact g → (s : State) → length (optional_at c g s).1.rest ≤ length s.rest
 last_forward c g q s = forward_by s.stop s.end (spell_some g (optional_at c g s).0) s.rest (optional_at c g s).1 (last_reads c g q s)
 
-last_there : {B : Type 0} (c : Class) (g : Format B) (s : State) → sees c s ≡ true → optional_at c g s ≡ some_read (g.read s)
+pub last_there : {B : Type 0} (c : Class) (g : Format B) (s : State) → sees c s ≡ true → optional_at c g s ≡ some_read (g.read s)
 unfolding optional_at
 last_there c g s e = cond-true (sees c s) _ _ e
 
@@ -121,7 +121,7 @@ last_greedy c g q first end (Some y) (i ∷ pre) tail (t ∷ ts) rest e m =
     let h = q.greedy end y (i ∷ pre) tail (t ∷ ts) rest e m in
     omega (arith, h, k)
 
-with_greedy : {A B : Type 0} (c : Class) (f : Format A) (g : Format B) → IsExact f → IsExact g → ((y : B) → begins c (g.spell y) ≡ true)
+pub with_greedy : {A B : Type 0} (c : Class) (f : Format A) (g : Format B) → IsExact f → IsExact g → ((y : B) → begins c (g.spell y) ≡ true)
     → (end : ℕ) (x : A × Option B) (pre tail : List Item) (ts rest : List TokenShape) → f.spell x.0 ++ spell_some g x.1 ≡ pre ++ tail → Matches pre ts → length ((with_last c f g).read (live end (ts ++ rest))).1.rest ≤ length rest
 with_greedy c f g p q first end x pre tail ts rest e m =
     elim (fronts (f.spell x.0) (spell_some g x.1) pre tail e) [
@@ -162,7 +162,7 @@ all_whole c f p first end xs ts m =
 all_greedy : {A : Type 0} (c : Class) (f : Format A) → IsExact f → ((x : A) → begins c (f.spell x) ≡ true)
     → (end : ℕ) (xs : List A) (pre tail : List Item) (ts rest : List TokenShape) (n : ℕ) → spell_many f xs ≡ pre ++ tail → Matches pre ts → length ts ≤ n → length (many_in c f n (live end (ts ++ rest))).1.rest ≤ length rest
 all_greedy c f p first end xs [] tail ts rest n e m le =
-    let h = many_forward f p c n (live end (ts ++ rest)) in
+    let h = many_forward f p.reads c n (live end (ts ++ rest)) in
     omega (arith, h, ap (λ (y : List TokenShape). length (y ++ rest)) (none_read ts m))
 all_greedy c f p first end xs (i ∷ pre) tail [] rest n e m le = absurd m
 all_greedy c f p first end [] (i ∷ pre) tail (t ∷ ts) rest n e m le = absurd cc
@@ -174,7 +174,7 @@ all_greedy c f p first end (x ∷ xs) (i ∷ pre) tail (t ∷ ts) rest (suc n) e
     elim (fronts (f.spell x) (spell_many f xs) (i ∷ pre) tail e) [
       | inl r ↦
           let a = p.greedy end x (i ∷ pre) r.0 (t ∷ ts) rest r.1 m in
-          let b = many_forward f p c n mid in
+          let b = many_forward f p.reads c n mid in
           omega (arith, a, b, once)
       | inr r ↦
           let s = split (f.spell x) r.0 (t ∷ ts) (subst (λ is. Matches is (t ∷ ts)) r.1 m) in
@@ -187,7 +187,7 @@ all_greedy c f p first end (x ∷ xs) (i ∷ pre) tail (t ∷ ts) rest (suc n) e
 
 pub all-whole : {A : Type 0} (c : Class) {f : Format A} → IsExact f → ((x : A) → begins c (f.spell x) ≡ true) → IsWhole (all c f)
 all-whole c {f} p first = record {
-  reads = λ s. many_reads f p c (weight s) s;
+  reads = λ s. many_reads f p.reads c (weight s) s;
   whole = λ end xs ts m. all_whole c f p first end xs ts m;
   greedy = λ end xs pre tail ts rest e m. all_greedy c f p first end xs pre tail ts rest (length (ts ++ rest)) e m (omega (arith, length-append ts rest));
 }

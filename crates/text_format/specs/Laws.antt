@@ -45,6 +45,10 @@ ConsumesBy (Some p) end is ts s = Filled is × (s ≡ stopped p end ts)
 abbrev pub Consumes : List Item → State → State → Type 0
 Consumes is old new = ConsumesBy old.stop old.end is old.rest new
 
+-- what is read is spelled so
+abbrev pub Reads : {A : Type 0} → Format A → Type 0
+Reads f = (s : State) → Consumes (f.spell (f.read s).0) s (f.read s).1
+
 -- what is read is spelled so; what is spelled so is read; tokens that begin as a tree is spelled are read, whatever comes after them
 pub record IsExact {A : Type 0} (f : Format A) : Type 0 where
   pub reads : (s : State) → Consumes (f.spell (f.read s).0) s (f.read s).1

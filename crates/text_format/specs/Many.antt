@@ -9,7 +9,7 @@ use Rattle.text_format.specs.declared.class.Class.TheVariants.{Exactly}
 use Rattle.text_format.specs.Token.{TokenShape}
 use Rattle.text_format.specs.Classes.{missing}
 use Rattle.text_format.specs.Formats.{State, Stop, Item, Fixed, Leaf, live, sees_by, sees, Format, only, ◌⊗◌, as_record, ◌▸◌, spell_either, first_read, second_read, either, spell_some, some_read, optional_at, optional, spell_many, onto, many_in, weight_by, weight, many_at, many, others_before, list_made, list_parts, list_before}
-use Rattle.text_format.specs.Laws.{Matches, ConsumesFrom, ConsumesBy, Consumes, IsExact, begins, avoids}
+use Rattle.text_format.specs.Laws.{Matches, ConsumesFrom, ConsumesBy, Consumes, Reads, IsExact, begins, avoids}
 use Rattle.text_format.specs.Apart.{fixed_fits, begins_sees, avoids_sees, nonempty, avoids_front}
 use Rattle.text_format.specs.Exact.{nothing, one_then, split, fronts, none_read, forward_by, goes_forward, read_front, only-exact, ◌⊠◌, ◌▹◌, record-exact, either-exact}
 
@@ -31,9 +31,9 @@ lighter_by (Some x) c end is ts new b e p = absurd cc
 lighter_by None c end is [] new b e p = absurd cc
 lighter_by None c end is (t ∷ ts) new b e p = lighter_from c end is t ts new b p
 
-pub lighter : {A : Type 0} (f : Format A) → IsExact f → (c : Class) → ((x : A) → begins c (f.spell x) ≡ true) → (s : State) → sees c s ≡ true → weight (f.read s).1 < weight s
+pub lighter : {A : Type 0} (f : Format A) → Reads f → (c : Class) → ((x : A) → begins c (f.spell x) ≡ true) → (s : State) → sees c s ≡ true → weight (f.read s).1 < weight s
 unfolding sees
-lighter f p c first s e = lighter_by s.stop c s.end (f.spell (f.read s).0) s.rest (f.read s).1 (first (f.read s).0) e (p.reads s)
+lighter f p c first s e = lighter_by s.stop c s.end (f.spell (f.read s).0) s.rest (f.read s).1 (first (f.read s).0) e (p s)
 
 -- ---- many
 
@@ -43,12 +43,12 @@ many_step : {A : Type 0} (f : Format A) (s mid : State) (x : A) (r : List A × S
 many_step f s mid x r true p q = one_then (f.spell x) (spell_many f r.0) s mid r.1 p q
 many_step f s mid x r false p q = nothing s.stop s.end s.rest
 
-pub many_reads : {A : Type 0} (f : Format A) → IsExact f → (c : Class) (n : ℕ) (s : State) → Consumes (spell_many f (many_in c f n s).0) s (many_in c f n s).1
+pub many_reads : {A : Type 0} (f : Format A) → Reads f → (c : Class) (n : ℕ) (s : State) → Consumes (spell_many f (many_in c f n s).0) s (many_in c f n s).1
 unfolding many_in
 many_reads f p c zero s = nothing s.stop s.end s.rest
 many_reads f p c (suc n) s =
     let r = f.read s in
-    many_step f s r.1 r.0 (many_in c f n r.1) (sees c s) (p.reads s) (many_reads f p c n r.1)
+    many_step f s r.1 r.0 (many_in c f n r.1) (sees c s) (p s) (many_reads f p c n r.1)
 
 pub many_none : {A : Type 0} (f : Format A) (c : Class) (n : ℕ) (s : State) → sees c s ≡ false → many_in c f n s ≡ ([], s)
 unfolding many_in
@@ -64,7 +64,7 @@ any_step s true x r q e = ap (onto x) (e refl)
 any_step s false x r q e = refl
 
 -- enough is enough
-pub many_any : {A : Type 0} (f : Format A) → IsExact f → (c : Class) → ((x : A) → begins c (f.spell x) ≡ true) → (n m : ℕ) (s : State) → weight s ≤ n → weight s ≤ m → many_in c f n s ≡ many_in c f m s
+pub many_any : {A : Type 0} (f : Format A) → Reads f → (c : Class) → ((x : A) → begins c (f.spell x) ≡ true) → (n m : ℕ) (s : State) → weight s ≤ n → weight s ≤ m → many_in c f n s ≡ many_in c f m s
 unfolding many_in
 many_any f p c first zero m s a b =
     elim (cases_Bool (sees c s)) [
@@ -99,7 +99,7 @@ many_again f p c first end (x ∷ xs) ts rest (suc n) m le e =
     let others = many_again f p c first end xs r.1 rest n r.4 (omega (arith, k, le, length-append r.0 r.1, ap length r.2)) e in
     many_once f c n (live end (ts ++ rest)) yes ∙ ap (λ y. onto y.0 (many_in c f n y.1)) one ∙ ap (onto x) others
 
-pub many_forward : {A : Type 0} (f : Format A) → IsExact f → (c : Class) (n : ℕ) (s : State) → length (many_in c f n s).1.rest ≤ length s.rest
+pub many_forward : {A : Type 0} (f : Format A) → Reads f → (c : Class) (n : ℕ) (s : State) → length (many_in c f n s).1.rest ≤ length s.rest
 many_forward f p c n s = forward_by s.stop s.end (spell_many f (many_in c f n s).0) s.rest (many_in c f n s).1 (many_reads f p c n s)
 
 pub first_begins : (c : Class) (is ys : List Item) (i : Item) (pre tail : List Item) → begins c is ≡ true → is ++ ys ≡ i ∷ (pre ++ tail) → begins c (i ∷ pre) ≡ true
@@ -108,14 +108,14 @@ first_begins c (Fixed l ∷ is) ys i pre tail b e = let h : Fixed l ≡ i = cc i
 first_begins c (Leaf d u ∷ is) ys i pre tail b e = let h : Leaf d u ≡ i = cc in subst (λ (j : Item). begins c (j ∷ pre) ≡ true) h b
 
 -- what is left behind the items and g
-abbrev left : {A B : Type 0} → Format B → List A × State → ℕ
+abbrev pub left : {A B : Type 0} → Format B → List A × State → ℕ
 left g r = length (g.read r.1).1.rest
 
 many_greedy : {A B : Type 0} (f : Format A) (g : Format B) → IsExact f → IsExact g → (c : Class) → ((x : A) → begins c (f.spell x) ≡ true) → ((y : B) → avoids c (g.spell y) ≡ true)
     → (end : ℕ) (xs : List A) (y : B) (pre tail : List Item) (ts rest : List TokenShape) (n : ℕ) → spell_many f xs ++ g.spell y ≡ pre ++ tail → Matches pre ts → length ts ≤ n
     → left g (many_in c f n (live end (ts ++ rest))) ≤ length rest
 many_greedy f g p q c first other end xs y [] tail ts rest n e m le =
-    let h = many_forward f p c n (live end (ts ++ rest)) in
+    let h = many_forward f p.reads c n (live end (ts ++ rest)) in
     let k = goes_forward g q (many_in c f n (live end (ts ++ rest))).1 in
     omega (arith, h, k, ap (λ (y : List TokenShape). length (y ++ rest)) (none_read ts m))
 many_greedy f g p q c first other end xs y (i ∷ pre) tail [] rest n e m le = absurd m
@@ -134,7 +134,7 @@ many_greedy f g p q c first other end (x ∷ xs) y (i ∷ pre) tail (t ∷ ts) r
     elim (fronts (f.spell x) (spell_many f xs ++ g.spell y) (i ∷ pre) tail k2) [
       | inl r ↦
           let a = p.greedy end x (i ∷ pre) r.0 (t ∷ ts) rest r.1 m in
-          let b = many_forward f p c n mid in
+          let b = many_forward f p.reads c n mid in
           let d = goes_forward g q (many_in c f n mid).1 in
           omega (arith, a, b, d, once)
       | inr r ↦
@@ -159,7 +159,7 @@ many_front f g p q c first other end x a b ts rest e m k =
 
 pub many-exact : {A B : Type 0} (c : Class) {f : Format A} {g : Format B} → IsExact f → IsExact g → ((x : A) → begins c (f.spell x) ≡ true) → ((y : B) → avoids c (g.spell y) ≡ true) → IsExact (many c f g)
 many-exact c {f} {g} p q first other = record {
-  reads = λ s. one_then (spell_many f (many_at c f s).0) (g.spell (g.read (many_at c f s).1).0) s (many_at c f s).1 (g.read (many_at c f s).1).1 (many_reads f p c (weight s) s) (q.reads (many_at c f s).1);
+  reads = λ s. one_then (spell_many f (many_at c f s).0) (g.spell (g.read (many_at c f s).1).0) s (many_at c f s).1 (g.read (many_at c f s).1).1 (many_reads f p.reads c (weight s) s) (q.reads (many_at c f s).1);
   again = λ end x ts rest m.
       let r = split (spell_many f x.0) (g.spell x.1) ts m in
       many_front f g p q c first other end x r.0 r.1 ts rest r.2 r.3 r.4;

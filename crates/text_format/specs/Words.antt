@@ -72,17 +72,13 @@ unbuilt_operations = codes "affine.apply" ∷ codes "affine.min" ∷ codes "tens
 abbrev pub unbuilt_elementwise : List (List ℕ)
 unbuilt_elementwise = codes "arith.addi" ∷ codes "arith.subi" ∷ codes "arith.muli" ∷ codes "arith.divsi" ∷ codes "arith.divui" ∷ codes "arith.remsi" ∷ codes "arith.remui" ∷ codes "arith.andi" ∷ codes "arith.ori" ∷ codes "arith.xori" ∷ codes "arith.shli" ∷ codes "arith.shrsi" ∷ codes "arith.shrui" ∷ codes "arith.maxsi" ∷ codes "arith.maxui" ∷ codes "arith.minsi" ∷ codes "arith.minui" ∷ codes "arith.cmpi" ∷ codes "arith.select" ∷ codes "arith.extsi" ∷ codes "arith.extui" ∷ codes "arith.trunci" ∷ []
 
--- operations that are not read yet: behind the result of a step in a payload
-abbrev pub unbuilt_steps : List (List ℕ)
-unbuilt_steps = codes "affine.apply" ∷ []
-
--- the name of an operation that the profile has at the position, and that is not read yet
+-- the name of an operation that the profile has at the position, and that is not read yet; each step of a payload is read
 abbrev pub is_unbuilt : Position → List ℕ → Bool
 is_unbuilt Item text = false
 is_unbuilt Statement text = is_among unbuilt_statements text
 is_unbuilt Operation text = is_among unbuilt_operations text || is_among unbuilt_elementwise text
 is_unbuilt PayloadStatement text = false
-is_unbuilt PayloadStep text = is_among unbuilt_steps text
+is_unbuilt PayloadStep text = false
 is_unbuilt ScriptStatement text = false
 is_unbuilt ScriptStep text = false
 

@@ -2,7 +2,7 @@
 
 ghost use Rattle.std.specs.Prelude.{◌≡◌, IfOk, true};
 ghost use Rattle.text_format.specs.Formats.{Format, optional_at, many_at, list_before};
-ghost use Rattle.text_format.specs.Laws.{IsExact, begins};
+ghost use Rattle.text_format.specs.Laws.{Reads, IsExact, begins};
 
 use crate::class::Class;
 use crate::lexeme::Lexeme;
@@ -19,6 +19,20 @@ pub trait Tree: Drop {
 
 /// A tree that a parser reads.
 pub trait Node<'a>: Tree {
+    /// The tree that stands next. Behind a stop it is filled up.
+    fn read(alloc: Global, parser: &mut Parser<'a>) -> Result<Self, Memory>
+        ensures { IfOk result (λ x. (x, parser.new) ≡ Self.format.read parser.old) };
+}
+
+/// A tree with a format that may end in an item which need not be there: what follows decides whether it is whole.
+pub trait OpenTree: Drop {
+    ghost format: { Format Self };
+
+    ghost reads: { Reads format };
+}
+
+/// Such a tree that a parser reads.
+pub trait OpenNode<'a>: OpenTree {
     /// The tree that stands next. Behind a stop it is filled up.
     fn read(alloc: Global, parser: &mut Parser<'a>) -> Result<Self, Memory>
         ensures { IfOk result (λ x. (x, parser.new) ≡ Self.format.read parser.old) };
@@ -43,6 +57,23 @@ pub fn optional<'a, N: Node<'a>>(
 
 /// Items, each beginning with a token of the class, as long as one comes next.
 pub fn many<'a, N: Node<'a>>(
+    alloc: Global,
+    parser: &mut Parser<'a>,
+    class: Class,
+) -> Result<List<N>, Memory>
+    requires { (x : N) → begins class (N.format.spell x) ≡ true }
+    ensures { IfOk result (λ xs. (xs, parser.new) ≡ many_at class N.format parser.old) }
+{
+    let mut items = List::new(alloc);
+    while parser.sees(class) {
+        let item = N::read(alloc, parser)?;
+        items.push(item)?;
+    }
+    Ok(items)
+}
+
+/// The same for items that may each end in an item which need not be there.
+pub fn many_open<'a, N: OpenNode<'a>>(
     alloc: Global,
     parser: &mut Parser<'a>,
     class: Class,

@@ -4,7 +4,7 @@ ghost use Rattle.std.specs.Prelude.{◌≡◌};
 ghost use Rattle.std.specs.List.{list_any};
 ghost use Rattle.std.specs.Str.{bytes_eq};
 ghost use Rattle.text_format.specs.Classes.{Booleans, Iterators, Predicates, Binaries, Casts, Items, MapMarks, DenseMarks, texts_of};
-ghost use Rattle.text_format.specs.Words.{is_among, profile_words, is_unbuilt, structure_words, keyword_words, tensor_words, loop_words, arith_words, choice_words, script_words, script_keyword_words, unbuilt_statements, unbuilt_operations, unbuilt_elementwise, unbuilt_steps};
+ghost use Rattle.text_format.specs.Words.{is_among, profile_words, is_unbuilt, structure_words, keyword_words, tensor_words, loop_words, arith_words, choice_words, script_words, script_keyword_words, unbuilt_statements, unbuilt_operations, unbuilt_elementwise};
 
 use crate::class::Position;
 
@@ -236,9 +236,6 @@ const UNBUILT_ELEMENTWISE: [&str; 22] = [
     "arith.trunci",
 ];
 
-/// Operations that are not read yet behind the result of a step in a payload.
-const UNBUILT_STEPS: [&str; 1] = ["affine.apply"];
-
 /// Whether the text is one of the words.
 fn is_among(words: &[&str], text: &[u8]) -> bool
     ensures { result ≡ list_any (λ word. bytes_eq text.now word.now) words.now }
@@ -328,13 +325,6 @@ fn is_unbuilt_elementwise(text: &[u8]) -> bool
     is_among(words.as_slice(), text)
 }
 
-fn is_unbuilt_step(text: &[u8]) -> bool
-    ensures { result ≡ is_among unbuilt_steps text.now }
-{
-    let words: [&str; 1] = UNBUILT_STEPS;
-    is_among(words.as_slice(), text)
-}
-
 pub fn is_item_word(text: &[u8]) -> bool
     ensures { result ≡ is_among (texts_of Items) text.now }
 {
@@ -406,17 +396,17 @@ pub fn is_listed(text: &[u8]) -> bool
         || is_script_keyword_word(text)
 }
 
-/// Whether the text is the name of an operation that isn't read yet at the position.
+/// Whether the text is the name of an operation that isn't read yet at the position. Each step of a payload is read.
 pub fn is_unbuilt(position: Position, text: &[u8]) -> bool
     ensures { result ≡ is_unbuilt position text.now }
 {
     match position {
         Position::Item
         | Position::PayloadStatement
+        | Position::PayloadStep
         | Position::ScriptStatement
         | Position::ScriptStep => false,
         Position::Statement => is_unbuilt_statement(text),
         Position::Operation => is_unbuilt_operation(text) || is_unbuilt_elementwise(text),
-        Position::PayloadStep => is_unbuilt_step(text),
     }
 }

@@ -1,12 +1,14 @@
 //! How a payload's block is read.
 
 ghost use Rattle.mlir_syntax.specs.Payloads.{block_arg, next_arg, block_args, step, region};
-ghost use Rattle.mlir_syntax.specs.PayloadLaws.{block_arg-exact, next_arg-exact, block_args-exact, step-exact, region-exact};
+ghost use Rattle.mlir_syntax.specs.PayloadLaws.{block_arg-exact, next_arg-exact, block_args-exact, step-open, region-exact};
 
 use crate::tree::{BlockArg, BlockArgs, NextArg, Region, Step, StepOperation};
 use payload_ops::Memory;
 use std::alloc::Global;
-use text_format::{Class, Lexeme, Node, Parser, Position, Tree, many};
+use text_format::{
+    Class, Lexeme, Node, OpenNode, OpenTree, Parser, Position, Tree, many, many_open,
+};
 
 impl<'a> Tree for BlockArg<'a> {
     ghost format = { block_arg };
@@ -57,13 +59,13 @@ impl<'a> Node<'a> for BlockArgs<'a> {
     }
 }
 
-impl<'a> Tree for Step<'a> {
+impl<'a> OpenTree for Step<'a> {
     ghost format = { step };
 
-    ghost exact = { step-exact };
+    ghost reads = { step-open.reads };
 }
 
-impl<'a> Node<'a> for Step<'a> {
+impl<'a> OpenNode<'a> for Step<'a> {
     #[tactic(auto, unfolding(crate::specs::Payloads::step))]
     fn read(alloc: Global, parser: &mut Parser<'a>) -> Result<Step<'a>, Memory> {
         let result = parser.leaf(Class::NewValueAt(Position::PayloadStatement));
@@ -86,7 +88,11 @@ impl<'a> Node<'a> for Region<'a> {
         parser.fixed(Lexeme::OpenParenthesis);
         let args = BlockArgs::read(alloc, parser)?;
         parser.fixed(Lexeme::Colon);
-        let steps = many::<Step>(alloc, parser, Class::NewValueAt(Position::PayloadStatement))?;
+        let steps = many_open::<Step>(
+            alloc,
+            parser,
+            Class::NewValueAt(Position::PayloadStatement),
+        )?;
         let yield_name = parser.leaf(Class::Name(Position::PayloadStatement, Lexeme::LinalgYield));
         let yielded = parser.leaf(Class::Value);
         parser.fixed(Lexeme::Colon);

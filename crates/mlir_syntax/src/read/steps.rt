@@ -1,15 +1,17 @@
 //! How the operations of a payload's steps are read.
 
-ghost use Rattle.mlir_syntax.specs.Steps.{constant_step, binary_step, compare_step, select_step, conversion, cast_step, index_cast_step, index_step, step_operation};
-ghost use Rattle.mlir_syntax.specs.StepLaws.{constant_step-exact, binary_step-exact, compare_step-exact, select_step-exact, conversion-exact, cast_step-exact, index_cast_step-exact, index_step-exact, step_operation-exact};
+ghost use Rattle.mlir_syntax.specs.Steps.{constant_step, binary_step, compare_step, select_step, conversion, cast_step, index_cast_step, index_step, apply_operand, apply_symbols, apply_step, step_operation};
+ghost use Rattle.mlir_syntax.specs.StepLaws.{constant_step-exact, binary_step-exact, compare_step-exact, select_step-exact, conversion-exact, cast_step-exact, index_cast_step-exact, index_step-exact, apply_operand-exact, apply_symbols-exact, apply_step-open, step_operation-open};
 
 use crate::tree::{
-    BinaryStep, CastStep, CompareStep, ConstantStep, Conversion, IndexCastStep, IndexStep,
-    ScalarLiteral, SelectStep, StepOperation,
+    ApplyOperand, ApplyStep, ApplySymbols, BinaryStep, CastStep, CompareStep, ConstantStep,
+    Conversion, IndexCastStep, IndexStep, MapUse, ScalarLiteral, SelectStep, StepOperation,
 };
 use payload_ops::Memory;
 use std::alloc::Global;
-use text_format::{Class, Lexeme, Node, Parser, Position, Tree};
+use text_format::{
+    Class, Lexeme, Node, OpenNode, OpenTree, Parser, Position, Tree, list, optional,
+};
 
 impl<'a> Tree for ConstantStep<'a> {
     ghost format = { constant_step };
@@ -169,17 +171,72 @@ impl<'a> Node<'a> for IndexStep<'a> {
     }
 }
 
-impl<'a> Tree for StepOperation<'a> {
-    ghost format = { step_operation };
+impl<'a> Tree for ApplyOperand<'a> {
+    ghost format = { apply_operand };
 
-    ghost exact = { step_operation-exact };
+    ghost exact = { apply_operand-exact };
 }
 
-impl<'a> Node<'a> for StepOperation<'a> {
+impl<'a> Node<'a> for ApplyOperand<'a> {
+    #[tactic(auto, unfolding(crate::specs::Steps::apply_operand))]
+    fn read(_alloc: Global, parser: &mut Parser<'a>) -> Result<ApplyOperand<'a>, Memory> {
+        let name = parser.leaf(Class::Value);
+        Ok(ApplyOperand { name })
+    }
+}
+
+impl<'a> Tree for ApplySymbols<'a> {
+    ghost format = { apply_symbols };
+
+    ghost exact = { apply_symbols-exact };
+}
+
+impl<'a> Node<'a> for ApplySymbols<'a> {
+    #[tactic(auto, unfolding(crate::specs::Steps::apply_symbols))]
+    fn read(alloc: Global, parser: &mut Parser<'a>) -> Result<ApplySymbols<'a>, Memory> {
+        parser.fixed(Lexeme::OpenBracket);
+        let operands = list::<ApplyOperand>(alloc, parser, Lexeme::CloseBracket)?;
+        Ok(ApplySymbols { operands })
+    }
+}
+
+impl<'a> OpenTree for ApplyStep<'a> {
+    ghost format = { apply_step };
+
+    ghost reads = { apply_step-open.reads };
+}
+
+impl<'a> OpenNode<'a> for ApplyStep<'a> {
+    #[tactic(auto, unfolding(crate::specs::Steps::apply_step))]
+    fn read(alloc: Global, parser: &mut Parser<'a>) -> Result<ApplyStep<'a>, Memory> {
+        let name = parser.leaf(Class::Name(Position::PayloadStep, Lexeme::AffineApply));
+        let map = MapUse::read(alloc, parser)?;
+        parser.fixed(Lexeme::OpenParenthesis);
+        let operands = list::<ApplyOperand>(alloc, parser, Lexeme::CloseParenthesis)?;
+        let symbols = optional::<ApplySymbols>(alloc, parser, Class::Exactly(Lexeme::OpenBracket))?;
+        Ok(ApplyStep {
+            name,
+            map,
+            operands,
+            symbols,
+        })
+    }
+}
+
+impl<'a> OpenTree for StepOperation<'a> {
+    ghost format = { step_operation };
+
+    ghost reads = { step_operation-open.reads };
+}
+
+impl<'a> OpenNode<'a> for StepOperation<'a> {
     #[tactic(auto, unfolding(crate::specs::Steps::step_operation))]
     fn read(alloc: Global, parser: &mut Parser<'a>) -> Result<StepOperation<'a>, Memory> {
         let at = Position::PayloadStep;
-        if parser.sees(Class::BinaryName(at)) {
+        if parser.sees(Class::Name(at, Lexeme::AffineApply)) {
+            let apply = ApplyStep::read(alloc, parser)?;
+            Ok(StepOperation::Apply(apply))
+        } else if parser.sees(Class::BinaryName(at)) {
             let binary = BinaryStep::read(alloc, parser)?;
             Ok(StepOperation::Binary(binary))
         } else if parser.sees(Class::Name(at, Lexeme::ArithConstant)) {

@@ -1,6 +1,8 @@
 //! The operations of a payload's steps.
 
 use crate::tree::literals::ScalarLiteral;
+use crate::tree::maps::MapUse;
+use payload_ops::List;
 use text_format::Token;
 
 /// `arith.constant literal`
@@ -68,6 +70,27 @@ pub struct IndexStep<'a> {
     pub dimension: Token<'a>,
 }
 
+/// `%name`, an operand of `affine.apply`.
+#[derive(Drop)]
+pub struct ApplyOperand<'a> {
+    pub name: Token<'a>,
+}
+
+/// `[%a, %b]`, the last operands of `affine.apply`, which may stand apart.
+#[derive(Drop)]
+pub struct ApplySymbols<'a> {
+    pub operands: List<ApplyOperand<'a>>,
+}
+
+/// `affine.apply map(%a, %b)[%c]`
+#[derive(Drop)]
+pub struct ApplyStep<'a> {
+    pub name: Token<'a>,
+    pub map: MapUse<'a>,
+    pub operands: List<ApplyOperand<'a>>,
+    pub symbols: Option<ApplySymbols<'a>>,
+}
+
 /// What stands behind `%result =` in a payload.
 #[derive(Drop)]
 pub enum StepOperation<'a> {
@@ -77,5 +100,6 @@ pub enum StepOperation<'a> {
     Select(SelectStep<'a>),
     IndexCast(IndexCastStep<'a>),
     Index(IndexStep<'a>),
+    Apply(ApplyStep<'a>),
     Cast(CastStep<'a>),
 }

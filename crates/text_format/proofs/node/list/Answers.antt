@@ -11,7 +11,7 @@ pub loop-alloc-smaller : goal.loop-alloc-smaller
 loop-alloc-smaller g c =
     let f = g.N.Tree.format in
     let e : sees (Exactly Comma) c.loop-alloc.parser ≡ true = sym c.sees-in-loop-alloc.ensures ∙ c.loop-alloc-test.true in
-    let h = lighter (Comma ▸ f) (Comma ▹ g.N.Tree.exact) (Exactly Comma) (λ x. refl) c.loop-alloc.parser e in
+    let h = lighter (Comma ▸ f) (Comma ▹ g.N.Tree.exact).reads (Exactly Comma) (λ x. refl) c.loop-alloc.parser e in
     let m = ap (λ x. weight x.1) (c.in_ok-item.ensures ∙ ap f.read c.fixed-in-loop-alloc.ensures) in
     omega (arith, h, m)
 
@@ -19,7 +19,7 @@ pub loop-alloc-preserved : goal.loop-alloc-preserved
 loop-alloc-preserved g c =
     let f = g.N.Tree.format in
     let e : sees (Exactly Comma) c.loop-alloc.parser ≡ true = sym c.sees-in-loop-alloc.ensures ∙ c.loop-alloc-test.true in
-    rw c.in_ok-push-2.ensures.ok (goes_on (Comma ▸ f) (Comma ▹ g.N.Tree.exact) (Exactly Comma) (λ x. refl) c.loop-alloc.items c.loop-alloc.parser c.read-in-loop-alloc.new.parser c.in_ok-item.item (list_at f c.args.parser.now)
+    rw c.in_ok-push-2.ensures.ok (goes_on (Comma ▸ f) (Comma ▹ g.N.Tree.exact).reads (Exactly Comma) (λ x. refl) c.loop-alloc.items c.loop-alloc.parser c.read-in-loop-alloc.new.parser c.in_ok-item.item (list_at f c.args.parser.now)
     e (c.in_ok-item.ensures ∙ ap f.read c.fixed-in-loop-alloc.ensures) c.loop-alloc.invariant)
 
 pub returns : goal.returns

@@ -1,8 +1,10 @@
-use Rattle.std.proofs.Common.{◌≡◌, [], ◌∷◌, ◌++◌, None, length, List, ℕ, map, sym, ap, ◌∙◌, arith}
+use Rattle.std.proofs.Common.{◌≡◌, [], ◌∷◌, ◌++◌, None, length, List, ℕ, sym, ap, subst, ◌∙◌, arith}
 use Rattle.std.proofs.lemmas.List.{length-map, map-append}
 use Rattle.std.proofs.lemmas.Map.Text.{hash_map_updates_str}
 use Rattle.mlir_resolve.specs.Names.{place}
-use Rattle.mlir_resolve.specs.Maps.{AliasShape, aliased, names_of}
+use Rattle.mlir_resolve.specs.Maps.{AliasShape, aliased, names_of, AreMaps}
+use Rattle.affine_maps.specs.Map.{IsMap}
+use Rattle.mlir_resolve.proofs.MapsFit.{maps_append}
 use Rattle.mlir_resolve.proofs.AliasSpots.{place_none}
 use Rattle.mlir_resolve.proofs.Spots.{name_added}
 use Rattle.mlir_resolve.proofs.maps.Aliases.add.Goals as goal
@@ -14,7 +16,9 @@ invariant_of-self-in-Ok c =
     let same : c.alias.inside.name.now ≡ c.args.alias.name = ap (λ (a : AliasShape). a.name) c.alias.view_is in
     let n : c.len-at.result ≡ length (names_of items) = omega (arith, c.len-at.ensures, length-map items (λ a. a.name)) in
     let none : place 0 (names_of items) name ≡ None =
-    place_none 0 items name (ap (λ (q : List ℕ). aliased items q) same ∙ ap (λ (xs : List AliasShape). aliased xs c.args.alias.name) c.self.view_is ∙ c.requires) in
-    λ q. name_added (names_of items) name _ _ c.len-at.result (hash_map_updates_str name c.self.inside.index c.insert.new.self _ c.in-Ok.ensures.updates) n c.self.invariant none q
-    ∙ ap (λ (x : List ℕ). place 0 (names_of items ++ x ∷ []) q) same
-    ∙ sym (ap (λ (xs : List (List ℕ)). place 0 xs q) (ap (λ (xs : List AliasShape). names_of xs) c.in_ok-push.ensures.items ∙ map-append (λ a. a.name) items (c.args.alias ∷ [])))
+    place_none 0 items name (ap (λ (q : List ℕ). aliased items q) same ∙ ap (λ (xs : List AliasShape). aliased xs c.args.alias.name) c.self.view_is ∙ c.requires) in (
+      λ q. name_added (names_of items) name _ _ c.len-at.result (hash_map_updates_str name c.self.inside.index c.insert.new.self _ c.in-Ok.ensures.updates) n c.self.invariant.0 none q
+          ∙ ap (λ (x : List ℕ). place 0 (names_of items ++ x ∷ []) q) same
+          ∙ sym (ap (λ (xs : List (List ℕ)). place 0 xs q) (ap (λ (xs : List AliasShape). names_of xs) c.in_ok-push.ensures.items ∙ map-append (λ a. a.name) items (c.args.alias ∷ []))),
+      subst (λ (xs : List AliasShape). AreMaps xs) (sym c.in_ok-push.ensures.items) (maps_append items c.args.alias c.self.invariant.1 (subst (λ (a : AliasShape). IsMap a.map) c.alias.view_is c.alias.invariant)),
+    )

@@ -5,12 +5,12 @@ use Rattle.mlir_resolve.proofs.maps.Aliases.find.Goals as goal
 
 pub index-requires : goal.index-requires
 index-requires c =
-    let a = place_at 0 c.self.inside.entries.items c.args.name.now c.in-Some.at.now (sym (c.in-Some.ensures.value ∙ c.self.invariant c.args.name.now)) in
+    let a = place_at 0 c.self.inside.entries.items c.args.name.now c.in-Some.at.now (sym (c.in-Some.ensures.value ∙ c.self.invariant.0 c.args.name.now)) in
     omega (arith, a.high)
 
 pub returns-in-Some : goal.returns-in-Some
 returns-in-Some c =
-    let a = place_at 0 c.self.inside.entries.items c.args.name.now c.in-Some.at.now (sym (c.in-Some.ensures.value ∙ c.self.invariant c.args.name.now)) in
+    let a = place_at 0 c.self.inside.entries.items c.args.name.now c.in-Some.at.now (sym (c.in-Some.ensures.value ∙ c.self.invariant.0 c.args.name.now)) in
     let z : c.in-Some.at.now - 0 ≡ c.in-Some.at.now = omega arith in
     ap (λ (e : AliasShape). Some e) c.index.ensures
     ∙ sym (a.found c.index.result.now ∙ ap (λ (j : ℕ). Some (get_or c.self.inside.entries.items j c.index.result.now)) z)
@@ -18,4 +18,4 @@ returns-in-Some c =
 
 pub returns-in-None : goal.returns-in-None
 returns-in-None c =
-    sym (ap (λ xs. aliased xs c.args.name.now) (sym c.self.view_is) ∙ none_place 0 c.self.inside.entries.items c.args.name.now (sym (c.in-None.ensures.value ∙ c.self.invariant c.args.name.now)))
+    sym (ap (λ xs. aliased xs c.args.name.now) (sym c.self.view_is) ∙ none_place 0 c.self.inside.entries.items c.args.name.now (sym (c.in-None.ensures.value ∙ c.self.invariant.0 c.args.name.now)))
