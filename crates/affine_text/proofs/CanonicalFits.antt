@@ -1,5 +1,5 @@
 -- The canonical tree of a map is a map's tree.
-use Rattle.std.proofs.Common.{◌<◌, ◌≤◌, ◌^◌, ℕ, suc, ◌+◌, ◌==◌, Bool, true, false, cond, ℤ, pos, negsuc, List, [], ◌∷◌, map, unsigned_abs, sym, ap, subst}
+use Rattle.std.proofs.Common.{◌<◌, ℕ, suc, ◌+◌, ◌==◌, Bool, true, false, cond, ℤ, pos, negsuc, List, [], ◌∷◌, map, unsigned_abs, sym, ap, subst}
 use Rattle.std.specs.Prelude.{is_some}
 use Rattle.std.specs.List.{AllByRecursion}
 use Rattle.text_format.specs.declared.class.Class.{Class}
@@ -96,13 +96,13 @@ results_fit c dims room at [] names n h = tt
 results_fit c dims room at (e ∷ es) names n h = (expression_by_fits c dims room at e.terms e.constant names n h.0.terms, others_fit c dims room (behind (expression c e) at) es names n h.1)
 
 -- its names differ, and its results are expressions over them
-pub map_fits : (c : Class) (at : ℕ) (m : MapShape) (symbols : Bool) → IsMap m → m.dims ≤ 2 ^ 32 → IsMapTree symbols (map_tree c at m)
+pub map_fits : (c : Class) (at : ℕ) (m : MapShape) (symbols : Bool) → IsMap m → IsMapTree symbols (map_tree c at m)
 unfolding map_tree
-map_fits c at m symbols i s = record {
-  dimensions = dimensions_new c m.dims (at + 10 + 1 + 1) s;
+map_fits c at m symbols i = record {
+  dimensions = dimensions_new c m.dims (at + 10 + 1 + 1);
   symbols_fit = tt;
   results =
       let sums = behind (dimensions c m.dims) (at + 10 + 1 + 1) + 1 + 1 + 2 + 1 + 1 in
       subst (λ (names : List (List ℕ)). SumsFit ((results c m.results).tree sums) names deepest) (sym (dimensions_named c m.dims (at + 10 + 1 + 1)))
-      (results_fit c m.dims deepest sums m.results (names_to m.dims) (numbered m.dims s) (results_over m.dims m.results i));
+      (results_fit c m.dims deepest sums m.results (names_to m.dims) (numbered m.dims) (results_over m.dims m.results i));
 }

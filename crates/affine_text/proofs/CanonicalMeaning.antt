@@ -294,10 +294,10 @@ unfolding map_tree
 tree_names c at m = dimensions_named c m.dims (at + 10 + 1 + 1)
 
 -- the canonical tree means the map
-pub map_means : (c : Class) (at : ℕ) (m : MapShape) → IsMap m → m.dims ≤ 2 ^ 32 → meaning (map_tree c at m) ≡ Ok m
+pub map_means : (c : Class) (at : ℕ) (m : MapShape) → IsMap m → meaning (map_tree c at m) ≡ Ok m
 unfolding map_tree
-map_means c at m i s =
+map_means c at m i =
     let sums = behind (dimensions c m.dims) (at + 10 + 1 + 1) + 1 + 1 + 2 + 1 + 1 in
     ap (results_form ((results c m.results).tree sums)) (tree_names c at m)
-    ∙ results_mean c m.dims sums m.results (names_to m.dims) (numbered m.dims s) (results_over m.dims m.results i)
+    ∙ results_mean c m.dims sums m.results (names_to m.dims) (numbered m.dims) (results_over m.dims m.results i)
     ∙ ap (λ n. Ok (record { dims = n; results = m.results })) (how_many m.dims)

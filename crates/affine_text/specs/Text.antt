@@ -1,11 +1,12 @@
 -- The canonical text of an expression and of a map (Affine manual, "Affine Expressions" and "Affine Maps").
 use Rattle.std.specs.Prelude.{ℕ, zero, suc, Bool, false, ◌==◌, ℤ, pos, negsuc, List, [], ◌∷◌, ◌++◌, if◌then◌else◌, unsigned_abs, codes, decimal}
 use Rattle.std.specs.Fmt.{signed_decimal}
+use Rattle.text_format.specs.Numerals.{numeral}
 use Rattle.affine_maps.specs.Shape.{MapShape}
 use Rattle.affine_maps.specs.declared.map.Expr.{Expr}
 
 abbrev pub dimension_text : ℕ → List ℕ
-dimension_text k = codes "d" ++ decimal k
+dimension_text k = codes "d" ++ numeral k
 
 abbrev pub is_one : ℤ → Bool
 is_one (pos n) = n == 1

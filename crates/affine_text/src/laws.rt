@@ -1,6 +1,6 @@
 //! Laws of the text of maps. Their functions have no code: each contract is a law.
 
-ghost use Rattle.std.specs.Prelude.{◌≡◌, ◌≤◌, ◌^◌, ℕ, Bool, List, ◌++◌, length, ◌⊎◌, Result, Ok, Err};
+ghost use Rattle.std.specs.Prelude.{◌≡◌, ℕ, Bool, List, ◌++◌, length, ◌⊎◌, Result, Ok, Err};
 ghost use Rattle.affine_maps.specs.Map.{IsMap};
 ghost use Rattle.affine_maps.specs.Shape.{MapShape};
 ghost use Rattle.text_format.specs.declared.class.Class.{Class};
@@ -31,19 +31,19 @@ pub fn one_reading()
 pub fn canonical_pieces()
     // The pieces are the canonical text.
     ensures text { (c : Class) (m : MapShape) → bytes_of (map_pieces c m) ≡ text_of_map m }
-    // Each token ends where the next piece begins, whatever stands behind the map. A map's dimensions are numbered by 32 bits.
-    ensures spaced { (c : Class) (m : MapShape) (rest : List ℕ) → IsMap m → m.dims ≤ 2 ^ 32 → IsSpaced (map_pieces c m) rest }
+    // Each token ends where the next piece begins, whatever stands behind the map.
+    ensures spaced { (c : Class) (m : MapShape) (rest : List ℕ) → IsMap m → IsSpaced (map_pieces c m) rest }
     // Their tokens spell the canonical tree, at whatever place the map begins.
     ensures tree { (c : Class) (m : MapShape) (at : ℕ) → map_tokens (map_tree c at m) ≡ shapes_at at (map_pieces c m) }
     // That tree is a map's, and it means this map.
-    ensures means { (c : Class) (m : MapShape) (at : ℕ) (symbols : Bool) → IsMap m → m.dims ≤ 2 ^ 32 → IsMapTree symbols (map_tree c at m) × (meaning (map_tree c at m) ≡ Ok m) }
+    ensures means { (c : Class) (m : MapShape) (at : ℕ) (symbols : Bool) → IsMap m → IsMapTree symbols (map_tree c at m) × (meaning (map_tree c at m) ≡ Ok m) }
 {}
 
 /// The canonical text of a map is read as that map, whatever stands behind it, and whether symbols are
 /// allowed or not. There is nothing to run.
 pub fn canonical_map_reads_back()
-    // At its front stands the map, which is as long as the canonical text. A map's dimensions are numbered by 32 bits.
-    ensures map { (m : MapShape) (rest : List ℕ) (symbols : Bool) → IsMap m → m.dims ≤ 2 ^ 32 → IsMapText symbols (stream_of (text_of_map m ++ rest)) m (length (text_of_map m)) }
+    // At its front stands the map, which is as long as the canonical text.
+    ensures map { (m : MapShape) (rest : List ℕ) (symbols : Bool) → IsMap m → IsMapText symbols (stream_of (text_of_map m ++ rest)) m (length (text_of_map m)) }
     // So reading answers this map and this length, memory alone being free.
-    ensures answer { (m : MapShape) (rest : List ℕ) (symbols : Bool) (r : Result (MapShape × ℕ) MapError) → IsMap m → m.dims ≤ 2 ^ 32 → IsAnswer symbols (stream_of (text_of_map m ++ rest)) r → (r ≡ Ok (m, length (text_of_map m))) ⊎ (r ≡ Err Memory) }
+    ensures answer { (m : MapShape) (rest : List ℕ) (symbols : Bool) (r : Result (MapShape × ℕ) MapError) → IsMap m → IsAnswer symbols (stream_of (text_of_map m ++ rest)) r → (r ≡ Ok (m, length (text_of_map m))) ⊎ (r ≡ Err Memory) }
 {}

@@ -1,6 +1,5 @@
 -- What is written is read again.
-use Rattle.std.proofs.Common.{◌≡◌, ◌≤◌, arith, ℕ, Bool, true, false, cond, List, length, nat_lt, Option, Some, None, Result, Ok, Err, refl, sym, ap, subst, ◌∙◌}
-use Rattle.std.proofs.lemmas.Bool.{ltb-false}
+use Rattle.std.proofs.Common.{◌≡◌, ℕ, Bool, true, false, cond, List, length, nat_lt, Option, Some, None, Result, Ok, Err, refl, sym, ap, subst, ◌∙◌}
 use Rattle.mlir_file.specs.declared.file.File.{File}
 use Rattle.mlir_ir.specs.declared.tree.OpId.{OpId}
 use Rattle.mlir_ir.specs.declared.tree.Which.TheVariants.{Bytes}
@@ -37,13 +36,13 @@ of_words : (files : Files) (asked : Option (List ℕ)) (bytes : List ℕ) → ve
 of_words files None bytes e = absurd (cc e)
 of_words files (Some name) bytes e = (name, refl, e)
 
-of_size : (b : Bool) (text bytes : List ℕ) → nat_lt 4194304 (length text) ≡ b → output_of (cond b (Err (Limit Bytes)) (Ok text)) ≡ Ok bytes → (length text ≤ 4194304) × (processed text ≡ Ok bytes)
+of_size : (b : Bool) (text bytes : List ℕ) → nat_lt 4194304 (length text) ≡ b → output_of (cond b (Err (Limit Bytes)) (Ok text)) ≡ Ok bytes → processed text ≡ Ok bytes
 of_size true text bytes s e = absurd (cc e)
-of_size false text bytes s e = (ltb-false 4194304 (length text) s, e)
+of_size false text bytes s e = e
 
-of_input : (o : Option (List ℕ)) (bytes : List ℕ) → output_of (input_of o) ≡ Ok bytes → (text : List ℕ) × (o ≡ Some text) × (length text ≤ 4194304) × (processed text ≡ Ok bytes)
+of_input : (o : Option (List ℕ)) (bytes : List ℕ) → output_of (input_of o) ≡ Ok bytes → (text : List ℕ) × (o ≡ Some text) × (processed text ≡ Ok bytes)
 of_input None bytes e = absurd (cc e)
-of_input (Some text) bytes e = let p = of_size (nat_lt 4194304 (length text)) text bytes refl e in (text, refl, p.0, p.1)
+of_input (Some text) bytes e = (text, refl, of_size (nat_lt 4194304 (length text)) text bytes refl e)
 
 of_rules : (f : File) (o : Option (Rule × OpId)) (bytes : List ℕ) → printed_unless o f ≡ Ok bytes → (o ≡ None) × (text_of f ≡ bytes)
 of_rules f None bytes e = (refl, cc e)
@@ -63,7 +62,7 @@ reads_again words files e =
     let v = of_verdict (verdict words files) e in
     let w = of_words files (asked_file words) v.0 v.1 in
     let i = of_input (files w.0) v.0 w.2 in
-    let p = of_processed i.0 v.0 i.3 in
+    let p = of_processed i.0 v.0 i.2 in
     let st = found_in i.0 (Ok p.0) p.1 in
     let out : text_of p.0 ≡ (answer words files).out = p.3 ∙ sym (ap (λ x. (answer_of x).out) v.1) in
-    (w.0, i.0, p.0, w.1, i.1, st, subst (λ (b : List ℕ). StandsFor b p.0) out (reads_back i.0 p.0 (omega (arith, i.2)) st), p.2)
+    (w.0, i.0, p.0, w.1, i.1, st, subst (λ (b : List ℕ). StandsFor b p.0) out (reads_back i.0 p.0 st), p.2)

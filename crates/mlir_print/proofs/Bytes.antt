@@ -1,19 +1,9 @@
 -- The pieces of a canonical text have the bytes that are written.
-use Rattle.std.proofs.Common.{◌≡◌, ℕ, ◌+◌, suc, ℤ, pos, negsuc, decimal, Bool, true, false, List, [], ◌∷◌, ◌++◌, map, length, Option, Some, None, refl, sym, ap, ◌∙◌, append_assoc, codes}
+use Rattle.std.proofs.Common.{◌≡◌, ℕ, ◌+◌, List, [], ◌∷◌, ◌++◌, map, Option, Some, None, refl, sym, ap, ◌∙◌, append_assoc, codes}
 use Rattle.std.proofs.lemmas.List.{append-nil}
-use Rattle.payload_ops.specs.declared.kinds.ElemTy.{ElemTy}
-use Rattle.payload_ops.specs.declared.kinds.ElemTy.TheVariants.{Int}
-use Rattle.payload_ops.specs.declared.step.Arg.TheVariants.{Step}
-use Rattle.payload_ops.specs.declared.step.StepOp.{StepOp}
-use Rattle.payload_ops.specs.declared.step.StepOp.TheVariants as ops
-use Rattle.payload_ops.specs.Bits.{signed_of}
-use Rattle.payload_ops.specs.Payload.{bits_of, is_elem}
-use Rattle.payload_ops.specs.declared.step.PayloadStep.{PayloadStep}
-use Rattle.payload_ops.specs.Shape.{PayloadShape}
 use Rattle.affine_maps.specs.Shape.{MapShape}
 use Rattle.affine_text.specs.Text.{text_of_map}
 use Rattle.mlir_ir.specs.declared.tree.Ty.{Ty}
-use Rattle.mlir_ir.specs.declared.tree.Iter.{Iter}
 use Rattle.mlir_ir.specs.declared.tree.ValueId.{ValueId}
 use Rattle.mlir_ir.specs.declared.tree.OpKind.{OpKind}
 use Rattle.mlir_ir.specs.declared.tree.OpKind.TheVariants as kinds
@@ -22,23 +12,19 @@ use Rattle.script_read.specs.declared.script.Script.{Script}
 use Rattle.script_text.specs.Canonical.{sequence_at}
 use Rattle.mlir_file.specs.declared.file.File.{File}
 use Rattle.mlir_ir.specs.Shape.{FuncShape}
-use Rattle.text_format.specs.declared.class.Class.TheVariants.{TensorType}
-use Rattle.text_format.specs.declared.front.Kind.TheVariants.{Shaped}
-use Rattle.text_format.specs.declared.lexeme.Lexeme.TheVariants.{OpenBrace, CloseBrace, OpenBracket, CloseBracket, Comma, Equals, Arrow, IteratorTypes, Parallel}
-use Rattle.text_format.specs.Lexemes.{lexeme_text}
-use Rattle.text_format.specs.Pieces.{Piece, Gap, Fixed, Leaf, bytes_of}
+use Rattle.text_format.specs.declared.lexeme.Lexeme.TheVariants.{CloseBrace}
+use Rattle.text_format.specs.Pieces.{Piece, Gap, Fixed, bytes_of}
 use Rattle.mlir_syntax.specs.declared.tree.files.Item.{Item}
 use Rattle.mlir_syntax.specs.declared.tree.files.Item.TheVariants as items
-use Rattle.mlir_print.specs.declared.names.Given.TheVariants.{Argument, Result}
-use Rattle.mlir_print.specs.Types.{elem_text, ty_text}
-use Rattle.mlir_print.specs.Names.{Names, Row, given_text, local_name, name_in, type_in, with_argument}
-use Rattle.mlir_print.specs.Maps.{alias_text, use_at, alias_line_at, alias_lines_at}
-use Rattle.std.specs.Fmt.{signed_decimal}
-use Rattle.mlir_print.specs.Operations.{operation_at, defined_at, line_at, last_at, next}
-use Rattle.mlir_print.specs.Canonical.{params_at, body_at, results_at, function_at, functions_at, closing_at, rest_at, module_at, text_with, aliases_of, text_of, names_in, next_result_at}
+use Rattle.mlir_print.specs.declared.names.Given.TheVariants.{Result}
+use Rattle.mlir_print.specs.Types.{ty_text}
+use Rattle.mlir_print.specs.Names.{Names, Row, given_text, name_in, type_in, with_argument}
+use Rattle.mlir_print.specs.Maps.{alias_line_at, alias_lines_at}
+use Rattle.mlir_print.specs.Operations.{defined_at, line_at, last_at, next}
+use Rattle.mlir_print.specs.Canonical.{params_at, body_at, results_at, function_at, functions_at, closing_at, rest_at, module_at, text_with, aliases_of, text_of, next_result_at}
 use Rattle.text_format.specs.Writers.{Writer, each_of, commas, after_comma, made}
-use Rattle.mlir_print.specs.MapParts.{use_text, uses_text, alias_line_text, alias_lines_text, after_funcs_texts}
-use Rattle.mlir_print.specs.OperationParts.{operation_text, defined_text, line_text_by, line_text}
+use Rattle.mlir_print.specs.MapParts.{alias_line_text, alias_lines_text, after_funcs_texts}
+use Rattle.mlir_print.specs.OperationParts.{defined_text, line_text_by, line_text}
 use Rattle.mlir_print.specs.Parts.{params_text, body_text, results_text, opening_text, signature_text, func_text, function_text, functions_text, rest_text, module_text, whole_text, result_types_text}
 use Rattle.mlir_print.specs.Returns.{values_text, types_text, returned_text, return_text, closed_at, next_value_at, return_type_at, returned_at, return_at}
 use Rattle.mlir_print.proofs.Texts.{funcs_texts}

@@ -1,7 +1,7 @@
 -- The maps of linear steps.
-use Rattle.std.proofs.Common.{◌≡◌, ◌≤◌, ◌<◌, ◌^◌, ℕ, ◌+◌, suc, ℤ, Bool, true, ◌&&◌, nat_le, nat_lt, List, [], ◌∷◌, ◌++◌, length, Option, Some, None, IsSome, IfSome, refl, sym, ap, subst, ◌∙◌, arith}
+use Rattle.std.proofs.Common.{◌≡◌, ◌≤◌, ℕ, ◌+◌, suc, ℤ, true, ◌&&◌, List, [], ◌∷◌, ◌++◌, length, Option, refl, subst, arith}
 use Rattle.std.specs.List.{list_all}
-use Rattle.std.proofs.lemmas.Bool.{and_parts, and_from, le-leb, lt-ltb, cond-true}
+use Rattle.std.proofs.lemmas.Bool.{and_parts, and_from, le-leb, lt-ltb}
 use Rattle.payload_ops.specs.Numbers.{is_in_range, is_coefficient}
 use Rattle.payload_ops.specs.declared.kinds.ElemTy.{ElemTy}
 use Rattle.payload_ops.specs.declared.kinds.ElemTy.TheVariants.{Index as IndexType}
@@ -11,10 +11,9 @@ use Rattle.payload_ops.specs.declared.step.StepOp.TheVariants as ops
 use Rattle.payload_ops.specs.declared.step.PayloadStep.{PayloadStep}
 use Rattle.payload_ops.specs.Shape.{PayloadShape}
 use Rattle.payload_ops.specs.Payload.{is_elem, arg_type, has_type, term_fits, op_fits, steps_fit, payload_fits}
-use Rattle.affine_maps.specs.declared.map.Expr.{Expr}
 use Rattle.affine_maps.specs.Shape.{MapShape}
-use Rattle.affine_maps.specs.Map.{terms_fit, expr_fits, IsMap}
-use Rattle.mlir_print.specs.Maps.{linear_terms, linear_map, has_map_numbers, step_map, listed, steps_maps}
+use Rattle.affine_maps.specs.Map.{terms_fit, IsMap}
+use Rattle.mlir_print.specs.Maps.{linear_terms, linear_map, has_map_numbers}
 use Rattle.mlir_print.specs.MapParts.{with_text, with_texts}
 use Rattle.affine_text.specs.Text.{text_of_map}
 
@@ -56,27 +55,8 @@ linear_is_map c ts h =
     let p = and_parts (is_in_range c) (list_all (λ t. is_coefficient t.1) ts) h in
     and_from _ _ (and_from _ _ p.0 (terms_are ts 0 (length ts) (omega arith) p.1)) refl
 
-pub has_step_map : (c : ℤ) (ts : List (Arg × ℤ)) → length ts < 2 ^ 32 → step_map (ops.Linear c ts) ≡ Some (linear_map c ts)
-has_step_map c ts lt = cond-true (nat_lt (length ts) (2 ^ 32)) (Some (linear_map c ts)) None (lt-ltb (length ts) (2 ^ 32) lt)
-
 -- ---- aliases of two lists
 
 pub texts_append : (ts : List (List ℕ)) (xs ys : List MapShape) → with_texts ts (xs ++ ys) ≡ with_texts (with_texts ts xs) ys
 texts_append ts [] ys = refl
 texts_append ts (x ∷ xs) ys = texts_append (with_text ts (text_of_map x)) xs ys
-
--- the map that is made of these parts
-made_map : (o : Option MapShape) (m : MapShape) → (IsMap m → IsSome o) → IfSome o (λ x. x ≡ m) → IsMap m → o ≡ Some m
-made_map None m v e h = absurd (cc (v h))
-made_map (Some x) m v e h = ap (λ (y : MapShape). Some y) e
-
-abbrev shape : ℕ → List Expr → MapShape
-shape dims results = record { dims = dims; results = results }
-
-pub linear_made : (o : Option MapShape) (dims : ℕ) (results : List Expr) (c : ℤ) (ts : List (Arg × ℤ)) → dims ≡ length ts → results ≡ record { constant = c; terms = linear_terms 0 ts } ∷ [] → (IsMap (shape dims results) → IsSome o) → IfSome o (λ m. m ≡ shape dims results)
-    → has_map_numbers (ops.Linear c ts) ≡ true → length ts < 2 ^ 32 → o ≡ step_map (ops.Linear c ts)
-linear_made o dims results c ts d r valid value h lt =
-    let e : shape dims results ≡ linear_map c ts = ap (λ (n : ℕ). shape n results) d ∙ ap (shape (length ts)) r in
-    let valid_is = subst (λ (m : MapShape). IsMap m → IsSome o) e valid in
-    let value_is = subst (λ (m : MapShape). IfSome o (λ x. x ≡ m)) e value in
-    made_map o (linear_map c ts) valid_is value_is (linear_is_map c ts h) ∙ sym (has_step_map c ts lt)

@@ -4,9 +4,9 @@ use Rattle.std.proofs.Math.Nat.{suc-mul, zero-mul}
 use Rattle.std.proofs.lemmas.List.{append-nil, take_all}
 use Rattle.std.specs.Fmt.{signed_decimal}
 use Rattle.mlir_ir.specs.declared.tree.Extent.{Extent}
-use Rattle.mlir_resolve.specs.Types.{counted, elements}
+use Rattle.mlir_scope.specs.Types.{counted, elements}
 use Rattle.mlir_print.specs.Literals.{truth_text}
-use Rattle.mlir_print.specs.Constants.{Word, bare, open_word, close_word, comma_word, number_words, first_words, items_words, nested_words, words_text}
+use Rattle.mlir_print.specs.Constants.{Word, bare, close_word, comma_word, number_words, items_words, nested_words, words_text}
 use Rattle.text_format.specs.declared.front.Kind.TheVariants as tokens
 
 pub words_append : (xs ys : List Word) → words_text (xs ++ ys) ≡ words_text xs ++ words_text ys

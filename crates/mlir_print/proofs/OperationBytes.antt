@@ -1,5 +1,5 @@
 -- The pieces of operations have the bytes that are written.
-use Rattle.std.proofs.Common.{◌≡◌, ℕ, ◌+◌, suc, zero, ℤ, pos, Bool, true, false, List, [], ◌∷◌, ◌++◌, map, refl, sym, ap, ◌∙◌, append_assoc, codes, decimal}
+use Rattle.std.proofs.Common.{◌≡◌, ℕ, ◌+◌, List, [], ◌∷◌, ◌++◌, map, refl, ap, ◌∙◌, append_assoc, codes, decimal}
 use Rattle.std.proofs.lemmas.List.{append-nil}
 use Rattle.payload_ops.specs.declared.kinds.ElemTy.{ElemTy}
 use Rattle.payload_ops.specs.Shape.{PayloadShape}
@@ -19,14 +19,13 @@ use Rattle.text_format.specs.Pieces.{Piece, Gap, Fixed, Leaf, bytes_of}
 use Rattle.mlir_print.specs.Types.{ty_text}
 use Rattle.mlir_print.specs.Names.{Names, Row, name_in, type_in}
 use Rattle.mlir_print.specs.Maps.{use_at}
-use Rattle.mlir_print.specs.Literals.{literal_text}
 use Rattle.mlir_print.specs.Constants.{Word, dense_words, words_text, word_at, dense_at}
 use Rattle.mlir_print.specs.Payloads.{region_at}
 use Rattle.mlir_print.specs.Generics.{iterator_text, iterator_at, next_input_at, next_type_at, inputs_at, output_at, operands_at, generic_at}
-use Rattle.mlir_print.specs.Structured.{fill_at, factors_at, moved_at, axis_at, transpose_at, broadcast_at}
+use Rattle.mlir_print.specs.Structured.{fill_at, factors_at, axis_at, transpose_at, broadcast_at}
 use Rattle.mlir_print.specs.Operations.{scalar_if, constant_if, generic_if, empty_if, operation_at}
 use Rattle.mlir_print.specs.Returns.{values_text, types_text}
-use Rattle.text_format.specs.Writers.{Writer, each_of, commas, after_comma}
+use Rattle.text_format.specs.Writers.{each_of, commas, after_comma}
 use Rattle.mlir_print.specs.MapParts.{uses_text}
 use Rattle.mlir_print.specs.PayloadParts.{region_text}
 use Rattle.mlir_print.specs.GenericParts.{ins_text, outs_text, operands_text, iterators_text, maps_text, traits_text, head_text, tail_text, generic_text}

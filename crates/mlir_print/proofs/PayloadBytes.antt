@@ -1,5 +1,5 @@
 -- The pieces of maps, literals and payloads have the bytes that are written.
-use Rattle.std.proofs.Common.{◌≡◌, ℕ, ◌+◌, suc, ℤ, pos, negsuc, decimal, Bool, true, false, List, [], ◌∷◌, ◌++◌, map, drop, length, Option, Some, None, refl, sym, ap, ◌∙◌, append_assoc, codes}
+use Rattle.std.proofs.Common.{◌≡◌, ℕ, ◌+◌, suc, ℤ, pos, negsuc, decimal, Bool, true, false, List, [], ◌∷◌, ◌++◌, map, drop, length, refl, sym, ap, ◌∙◌, append_assoc, codes}
 use Rattle.std.proofs.lemmas.List.{append-nil}
 use Rattle.payload_ops.specs.declared.kinds.ElemTy.{ElemTy}
 use Rattle.payload_ops.specs.declared.kinds.ElemTy.TheVariants.{Int}
@@ -13,34 +13,23 @@ use Rattle.payload_ops.specs.declared.step.PayloadStep.{PayloadStep}
 use Rattle.payload_ops.specs.Shape.{PayloadShape}
 use Rattle.affine_maps.specs.Shape.{MapShape}
 use Rattle.affine_text.specs.Text.{text_of_map}
-use Rattle.mlir_ir.specs.declared.tree.Ty.{Ty}
-use Rattle.mlir_ir.specs.declared.tree.Iter.{Iter}
-use Rattle.mlir_ir.specs.declared.tree.ValueId.{ValueId}
-use Rattle.mlir_ir.specs.declared.tree.OpKind.{OpKind}
-use Rattle.mlir_ir.specs.declared.tree.OpKind.TheVariants as kinds
-use Rattle.mlir_ir.specs.declared.tree.Op.{Op}
-use Rattle.mlir_ir.specs.declared.tree.Module.{Module}
-use Rattle.mlir_ir.specs.Shape.{FuncShape}
-use Rattle.text_format.specs.declared.class.Class.TheVariants.{TensorType, MapToken}
-use Rattle.text_format.specs.declared.front.Kind.TheVariants.{Shaped}
-use Rattle.text_format.specs.declared.lexeme.Lexeme.TheVariants.{OpenBrace, CloseBrace, OpenBracket, CloseBracket, Comma, Equals, Arrow, IteratorTypes, Parallel, Greater, CloseParenthesis}
+use Rattle.text_format.specs.declared.class.Class.TheVariants.{MapToken}
+use Rattle.text_format.specs.declared.lexeme.Lexeme.TheVariants.{Greater, CloseParenthesis}
 use Rattle.text_format.specs.Lexemes.{lexeme_text}
 use Rattle.text_format.specs.Pieces.{Piece, Gap, Fixed, Leaf, bytes_of}
-use Rattle.mlir_syntax.specs.declared.tree.files.Item.{Item}
-use Rattle.mlir_syntax.specs.declared.tree.files.Item.TheVariants as items
-use Rattle.mlir_print.specs.declared.names.Given.TheVariants.{Argument, Result}
-use Rattle.mlir_print.specs.Types.{elem_text, ty_text}
-use Rattle.mlir_print.specs.Names.{Names, Row, given_text, local_name, name_in, type_in, with_argument}
-use Rattle.mlir_print.specs.Maps.{map_token, inner_pieces, written_at, alias_text, alias_of, step_map, use_at, alias_line_at}
+use Rattle.mlir_print.specs.declared.names.Given.TheVariants.{Argument}
+use Rattle.mlir_print.specs.Types.{elem_text}
+use Rattle.mlir_print.specs.Names.{given_text, local_name}
+use Rattle.mlir_print.specs.Maps.{map_token, inner_pieces, written_at, alias_text, alias_of, linear_map, use_at, alias_line_at}
 use Rattle.affine_text.specs.Canonical.{map_front}
 use Rattle.affine_text.proofs.CanonicalBytes.{map_bytes}
 use Rattle.mlir_print.specs.Literals.{number_at, truth_text, literal_if, literal_at, literal_text_if, literal_text}
-use Rattle.mlir_print.specs.Payloads.{next_args_at, block_args_at, type_in as arg_type_in, apply_operand_at, apply_at, linear_if, operation_at as step_operation_at, step_at, steps_at, region_at}
+use Rattle.mlir_print.specs.Payloads.{next_args_at, block_args_at, type_in as arg_type_in, apply_operand_at, apply_at, operation_at as step_operation_at, step_at, steps_at, region_at}
 use Rattle.std.specs.Fmt.{signed_decimal}
-use Rattle.text_format.specs.Writers.{Writer, each_of, commas, after_comma, made}
-use Rattle.mlir_print.specs.MapParts.{use_text, uses_text, alias_line_text, alias_lines_text, after_funcs_texts}
-use Rattle.mlir_print.specs.PayloadParts.{block_args_text, local_text, conversion_text, arguments_text, apply_text, linear_text_if, operation_text as step_operation_text, step_text, steps_text, block_text, region_text}
-use Rattle.mlir_print.proofs.Texts.{alias_is, funcs_texts}
+use Rattle.text_format.specs.Writers.{each_of, commas, after_comma}
+use Rattle.mlir_print.specs.MapParts.{use_text, uses_text, alias_line_text}
+use Rattle.mlir_print.specs.PayloadParts.{block_args_text, local_text, conversion_text, arguments_text, apply_text, operation_text as step_operation_text, step_text, steps_text, block_text, region_text}
+use Rattle.mlir_print.proofs.Texts.{alias_is}
 
 pub bytes_append : (ps qs : List Piece) → bytes_of (ps ++ qs) ≡ bytes_of ps ++ bytes_of qs
 bytes_append [] qs = refl
@@ -111,16 +100,12 @@ apply_bytes al a r p m terms =
     (bytes_append (commas (map (apply_operand_at (local_name a (length p.ins) r)) terms)).pieces (Fixed CloseParenthesis ∷ []) ∙ ap (λ (t : List ℕ). t ++ codes ")") (arguments_bytes a r p terms))
     ∙ ap (λ (t : List ℕ). codes "affine.apply " ++ (t ++ (codes "(" ++ (arguments_text a r p [] terms ++ codes ")")))) (alias_is al m)
 
-linear_bytes : (al : List MapShape) (a r : ℕ) (p : PayloadShape) (o : Option MapShape) (terms : List (Arg × ℤ)) → bytes_of (linear_if al (local_name a (length p.ins) r) o terms).pieces ≡ linear_text_if (map text_of_map al) a r p o terms
-linear_bytes al a r p None terms = refl
-linear_bytes al a r p (Some m) terms = apply_bytes al a r p m terms
-
 step_operation_bytes : (al : List MapShape) (a r : ℕ) (p : PayloadShape) (e : ElemTy) (o : StepOp) → bytes_of (step_operation_at al (local_name a (length p.ins) r) (arg_type_in p) e o).pieces ≡ step_operation_text (map text_of_map al) a r p e o
 unfolding conversion_text
 step_operation_bytes al a r p e (ops.Const v) = ap (λ (t : List ℕ). codes "arith.constant " ++ t) (literal_bytes e v)
 step_operation_bytes al a r p e (ops.Index k) = refl
 step_operation_bytes al a r p e (ops.Captured k) = refl
-step_operation_bytes al a r p e (ops.Linear c ts) = linear_bytes al a r p (step_map (ops.Linear c ts)) ts
+step_operation_bytes al a r p e (ops.Linear c ts) = apply_bytes al a r p (linear_map c ts) ts
 step_operation_bytes al a r p e (ops.Binary op x y) = simp (append_assoc, append-nil)
 step_operation_bytes al a r p e (ops.Compare k x y) = simp (append_assoc, append-nil)
 step_operation_bytes al a r p e (ops.Select c x y) = simp (append_assoc, append-nil)

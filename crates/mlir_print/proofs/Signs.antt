@@ -1,5 +1,5 @@
 -- Values and the numbers that they stand for.
-use Rattle.std.proofs.Common.{◌≡◌, ◌<◌, ◌^◌, ◌%◌, ℕ, ◌+◌, ℤ, pos, ◌+ℤ◌, refl, ap, ◌∙◌, arith, mod-eq_of_lt}
+use Rattle.std.proofs.Common.{◌≡◌, ◌<◌, ◌^◌, ◌%◌, ℕ, pos, refl, arith, mod-eq_of_lt}
 use Rattle.std.proofs.lemmas.Int.{ints}
 use Rattle.std.proofs.lemmas.Nat.{mod_below, pow_pos}
 use Rattle.payload_ops.specs.Bits.{reduce, signed_of}

@@ -3,9 +3,8 @@ use Rattle.std.specs.Prelude.{ℕ, zero, suc, ◌==◌, ℤ, pos, negsuc, Bool, 
 use Rattle.std.specs.List.{list_all}
 use Rattle.payload_ops.specs.Bits.{signed_of}
 use Rattle.mlir_ir.specs.declared.tree.Ty.{Ty}
-use Rattle.mlir_ir.specs.declared.tree.Ty.TheVariants.{Scalar, Tensor, Vector}
 use Rattle.mlir_ir.specs.declared.tree.Extent.{Extent}
-use Rattle.mlir_resolve.specs.Types.{counted, elements}
+use Rattle.mlir_scope.specs.Types.{counted, elements}
 use Rattle.text_format.specs.declared.class.Class.TheVariants.{Exactly, Name, DenseToken, DenseType}
 use Rattle.text_format.specs.declared.class.Position.TheVariants.{Operation as OperationName}
 use Rattle.text_format.specs.declared.front.Kind.{Kind}
@@ -15,11 +14,10 @@ use Rattle.text_format.specs.Pieces.{Gap}
 use Rattle.mlir_syntax.specs.declared.tree.constants.DensePiece.{DensePiece}
 use Rattle.mlir_syntax.specs.declared.tree.constants.DenseLiteral.{DenseLiteral}
 use Rattle.mlir_syntax.specs.declared.tree.constants.Literal.{Literal}
-use Rattle.mlir_syntax.specs.declared.tree.constants.Literal.TheVariants as literals
 use Rattle.mlir_syntax.specs.declared.tree.constants.Constant.{Constant}
 use Rattle.mlir_print.specs.Types.{ty_text}
-use Rattle.mlir_print.specs.Literals.{truth_text, literal_at}
-use Rattle.text_format.specs.Writers.{Writer, put, keep, lay, space, lay_after, pair, made, each_of, no_token, ◌▷◌}
+use Rattle.mlir_print.specs.Literals.{truth_text}
+use Rattle.text_format.specs.Writers.{Writer, put, keep, lay, space, lay_after, pair, made, each_of, ◌▷◌}
 
 -- ---- the tokens of a dense literal
 

@@ -1,5 +1,5 @@
 -- Maps and their aliases: `#map`, `#map1`, `#map2`, in the order of first use.
-use Rattle.std.specs.Prelude.{ℕ, zero, suc, ◌+◌, ◌^◌, ℤ, nat_lt, Bool, true, ◌&&◌, List, [], ◌∷◌, ◌++◌, map, drop, length, Option, Some, None, if◌then◌else◌, codes, decimal, position, unwrap_or}
+use Rattle.std.specs.Prelude.{ℕ, zero, suc, ◌+◌, ℤ, Bool, true, ◌&&◌, List, [], ◌∷◌, ◌++◌, map, drop, length, if◌then◌else◌, codes, position, unwrap_or}
 use Rattle.std.specs.List.{list_all, list_any}
 use Rattle.std.specs.Str.{bytes_eq}
 use Rattle.payload_ops.specs.Numbers.{is_in_range, is_coefficient}
@@ -9,6 +9,7 @@ use Rattle.payload_ops.specs.declared.step.StepOp.TheVariants as ops
 use Rattle.payload_ops.specs.declared.step.PayloadStep.{PayloadStep}
 use Rattle.affine_maps.specs.Shape.{MapShape}
 use Rattle.affine_text.specs.Text.{text_of_map}
+use Rattle.text_format.specs.Numerals.{numeral}
 use Rattle.affine_text.specs.Canonical.{map_front}
 use Rattle.mlir_ir.specs.declared.tree.OpKind.{OpKind}
 use Rattle.mlir_ir.specs.declared.tree.OpKind.TheVariants as kinds
@@ -61,19 +62,15 @@ abbrev pub has_map_numbers : StepOp → Bool
 has_map_numbers (ops.Linear c ts) = is_in_range c && list_all (λ t. is_coefficient t.1) ts
 has_map_numbers o = true
 
--- the dimensions of a map are numbered by 32 bits: a step of more terms has none
-abbrev pub step_map : StepOp → Option MapShape
-step_map (ops.Linear c ts) = if nat_lt (length ts) (2 ^ 32) then Some (linear_map c ts) else None
-step_map o = None
-
-abbrev pub listed : Option MapShape → List MapShape
-listed None = []
-listed (Some m) = m ∷ []
+-- the map of a linear step
+abbrev pub op_maps : StepOp → List MapShape
+op_maps (ops.Linear c ts) = linear_map c ts ∷ []
+op_maps o = []
 
 -- the maps of a payload's steps
 abbrev pub steps_maps : List PayloadStep → List MapShape
 steps_maps [] = []
-steps_maps (s ∷ ss) = listed (step_map s.op) ++ steps_maps ss
+steps_maps (s ∷ ss) = op_maps s.op ++ steps_maps ss
 
 -- ---- aliases
 
@@ -101,7 +98,7 @@ with_funcs ms (f ∷ fs) = with_funcs (with_ops ms f.body) fs
 -- #map, #map1, #map2
 abbrev pub alias_text : ℕ → List ℕ
 alias_text zero = codes "#map"
-alias_text (suc n) = codes "#map" ++ decimal (suc n)
+alias_text (suc n) = codes "#map" ++ numeral (suc n)
 
 abbrev pub alias_number : List MapShape → MapShape → ℕ
 alias_number ms m = unwrap_or (position (λ x. bytes_eq (text_of_map m) (text_of_map x)) ms) 0

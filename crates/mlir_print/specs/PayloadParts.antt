@@ -1,5 +1,5 @@
 -- The bytes of a payload, in the order in which they are written.
-use Rattle.std.specs.Prelude.{ℕ, ◌+◌, ℤ, List, [], ◌∷◌, ◌++◌, length, Option, Some, None, codes, decimal}
+use Rattle.std.specs.Prelude.{ℕ, ◌+◌, ℤ, List, [], ◌∷◌, ◌++◌, length, codes, decimal}
 use Rattle.payload_ops.specs.declared.kinds.ElemTy.{ElemTy}
 use Rattle.payload_ops.specs.declared.kinds.BinOp.{BinOp}
 use Rattle.payload_ops.specs.declared.kinds.Predicate.{Predicate}
@@ -10,14 +10,14 @@ use Rattle.payload_ops.specs.declared.step.StepOp.TheVariants as ops
 use Rattle.payload_ops.specs.declared.step.PayloadStep.{PayloadStep}
 use Rattle.payload_ops.specs.Shape.{PayloadShape}
 use Rattle.affine_maps.specs.Shape.{MapShape}
-use Rattle.mlir_resolve.specs.declared.words.Cast.{Cast}
-use Rattle.mlir_resolve.specs.declared.words.Cast.TheVariants as changes
-use Rattle.mlir_resolve.specs.Words.{binary_text, predicate_text, cast_text}
+use Rattle.mlir_scope.specs.declared.words.Cast.{Cast}
+use Rattle.mlir_scope.specs.declared.words.Cast.TheVariants as changes
+use Rattle.mlir_scope.specs.Words.{binary_text, predicate_text, cast_text}
 use Rattle.mlir_print.specs.declared.names.Given.TheVariants.{Argument}
 use Rattle.mlir_print.specs.Types.{elem_text}
 use Rattle.mlir_print.specs.Names.{given_text, local_name}
 use Rattle.mlir_print.specs.Literals.{literal_text}
-use Rattle.mlir_print.specs.Maps.{step_map}
+use Rattle.mlir_print.specs.Maps.{linear_map}
 use Rattle.mlir_print.specs.MapParts.{use_text}
 use Rattle.mlir_print.specs.Payloads.{type_in}
 use Rattle.text_format.specs.Writers.{unbuilt_text}
@@ -66,10 +66,6 @@ arguments_text a r p before (t ∷ terms) = before ++ (local_text a r p t.0 ++ a
 unfoldable pub apply_text : List (List ℕ) → ℕ → ℕ → PayloadShape → MapShape → List (Arg × ℤ) → List ℕ
 apply_text ts a r p m terms = codes "affine.apply " ++ (use_text ts m ++ (codes "(" ++ (arguments_text a r p [] terms ++ codes ")")))
 
-abbrev pub linear_text_if : List (List ℕ) → ℕ → ℕ → PayloadShape → Option MapShape → List (Arg × ℤ) → List ℕ
-linear_text_if ts a r p None terms = unbuilt_text
-linear_text_if ts a r p (Some m) terms = apply_text ts a r p m terms
-
 abbrev pub operation_text : List (List ℕ) → ℕ → ℕ → PayloadShape → ElemTy → StepOp → List ℕ
 operation_text ts a r p e (ops.Const v) = codes "arith.constant " ++ literal_text e v
 operation_text ts a r p e (ops.Index k) = index_step_text k
@@ -80,7 +76,7 @@ operation_text ts a r p e (ops.SignExtend x) = cast_step_text a r p changes.Sign
 operation_text ts a r p e (ops.ZeroExtend x) = cast_step_text a r p changes.ZeroExtend x e
 operation_text ts a r p e (ops.Truncate x) = cast_step_text a r p changes.Truncate x e
 operation_text ts a r p e (ops.IndexCast x) = codes "arith.index_cast " ++ conversion_text a r p x e
-operation_text ts a r p e (ops.Linear c terms) = linear_text_if ts a r p (step_map (ops.Linear c terms)) terms
+operation_text ts a r p e (ops.Linear c terms) = apply_text ts a r p (linear_map c terms) terms
 operation_text ts a r p e o = unbuilt_text
 
 unfoldable pub step_text : List (List ℕ) → ℕ → ℕ → PayloadShape → ℕ → ElemTy → StepOp → List ℕ

@@ -1,5 +1,5 @@
 -- Payloads as they are written (MLIR Linalg dialect, "linalg.generic").
-use Rattle.std.specs.Prelude.{ℕ, ◌+◌, ℤ, List, [], ◌∷◌, ◌++◌, map, length, Option, Some, None, codes, decimal}
+use Rattle.std.specs.Prelude.{ℕ, ◌+◌, ℤ, List, [], ◌∷◌, map, length, Option, Some, None, codes, decimal}
 use Rattle.payload_ops.specs.declared.kinds.ElemTy.{ElemTy}
 use Rattle.payload_ops.specs.declared.kinds.BinOp.{BinOp}
 use Rattle.payload_ops.specs.declared.kinds.Predicate.{Predicate}
@@ -34,15 +34,15 @@ use Rattle.mlir_syntax.specs.declared.tree.steps.ApplyOperand.{ApplyOperand}
 use Rattle.mlir_syntax.specs.declared.tree.steps.ApplyStep.{ApplyStep}
 use Rattle.mlir_syntax.specs.declared.tree.steps.StepOperation.{StepOperation}
 use Rattle.mlir_syntax.specs.declared.tree.steps.StepOperation.TheVariants as operations
-use Rattle.mlir_resolve.specs.declared.words.Cast.{Cast}
-use Rattle.mlir_resolve.specs.declared.words.Cast.TheVariants as changes
-use Rattle.mlir_resolve.specs.Words.{binary_text, predicate_text, cast_text}
+use Rattle.mlir_scope.specs.declared.words.Cast.{Cast}
+use Rattle.mlir_scope.specs.declared.words.Cast.TheVariants as changes
+use Rattle.mlir_scope.specs.Words.{binary_text, predicate_text, cast_text}
 use Rattle.mlir_print.specs.declared.names.Given.{Given}
 use Rattle.mlir_print.specs.declared.names.Given.TheVariants.{Argument}
 use Rattle.mlir_print.specs.Types.{elem_text}
 use Rattle.mlir_print.specs.Names.{given_text, local_name}
 use Rattle.mlir_print.specs.Literals.{literal_at}
-use Rattle.mlir_print.specs.Maps.{step_map, use_at}
+use Rattle.mlir_print.specs.Maps.{linear_map, use_at}
 use Rattle.text_format.specs.Writers.{Writer, put, keep, lay, gap, space, lay_after, pair, made, each_of, commas, unbuilt, unbuilt_text, no_token, ◌▷◌}
 
 abbrev pub new_line : List ℕ
@@ -133,10 +133,6 @@ apply_at aliases name m ts = made (λ x. record { name = x.0; map = x.1.0; opera
 abbrev pub no_operation : ℕ → StepOperation
 no_operation at = operations.Index (record { name = no_token at; dimension = no_token at })
 
-abbrev pub linear_if : List MapShape → (Arg → Given) → Option MapShape → List (Arg × ℤ) → Writer StepOperation
-linear_if aliases name None ts = unbuilt no_operation
-linear_if aliases name (Some m) ts = made operations.Apply (apply_at aliases name m ts)
-
 abbrev pub operation_at : List MapShape → (Arg → Given) → (Arg → List ℕ) → ElemTy → StepOp → Writer StepOperation
 operation_at aliases name type e (ops.Const v) = made operations.Constant (constant_at e v)
 operation_at aliases name type e (ops.Index k) = made operations.Index (index_at k)
@@ -147,7 +143,7 @@ operation_at aliases name type e (ops.SignExtend x) = made operations.Cast (cast
 operation_at aliases name type e (ops.ZeroExtend x) = made operations.Cast (cast_at name type changes.ZeroExtend x e)
 operation_at aliases name type e (ops.Truncate x) = made operations.Cast (cast_at name type changes.Truncate x e)
 operation_at aliases name type e (ops.IndexCast x) = made operations.IndexCast (index_cast_at name type x e)
-operation_at aliases name type e (ops.Linear c ts) = linear_if aliases name (step_map (ops.Linear c ts)) ts
+operation_at aliases name type e (ops.Linear c ts) = made operations.Apply (apply_at aliases name (linear_map c ts) ts)
 operation_at aliases name type e o = unbuilt no_operation
 
 -- ---- steps, each on a line of its own

@@ -1,7 +1,8 @@
 //! Maps and their aliases.
 
-ghost use Rattle.std.specs.Prelude.{◌≡◌, ◌++◌, [], map, IfOk, OnOk};
+ghost use Rattle.std.specs.Prelude.{◌≡◌, ◌++◌, [], map, IfOk, OnOk, decimal};
 ghost use Rattle.affine_text.specs.Text.{text_of_map};
+ghost use Rattle.text_format.specs.Numerals.{numeral};
 ghost use Rattle.mlir_print.specs.Maps.{alias_text};
 ghost use Rattle.mlir_print.specs.MapParts.{with_text, with_texts, text_number, use_text, uses_text, alias_line_text, alias_lines_text};
 
@@ -81,13 +82,26 @@ fn write_alias_lines(out: &mut Vec<u8>, texts: &[Vec<u8>]) -> Result<(), Memory>
     Ok(())
 }
 
+fn write_number(out: &mut Vec<u8>, number: u64) -> Result<(), Memory>
+    ensures { OnOk result (out.new.items ≡ out.old.items ++ decimal number) }
+{
+    let mut buffer = Buffer::new();
+    out.extend_from_slice(buffer.format(number).as_bytes())?;
+    Ok(())
+}
+
+fn write_alias_number(out: &mut Vec<u8>, number: u64) -> Result<(), Memory>
+    ensures { OnOk result (out.new.items ≡ out.old.items ++ numeral number) }
+{
+    write_number(out, number)
+}
+
 fn write_alias(out: &mut Vec<u8>, number: u64) -> Result<(), Memory>
     ensures { OnOk result (out.new.items ≡ out.old.items ++ alias_text number) }
 {
     out.extend_from_slice(b"#map")?;
     if number > 0 {
-        let mut buffer = Buffer::new();
-        out.extend_from_slice(buffer.format(number).as_bytes())?;
+        write_alias_number(out, number)?;
     }
     Ok(())
 }

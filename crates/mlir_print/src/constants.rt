@@ -3,7 +3,7 @@
 ghost use Rattle.std.specs.Prelude.{◌≡◌, ◌++◌, ◌==◌, [], IfOk, OnOk, drop};
 ghost use Rattle.mlir_ir.specs.declared.tree.Ty.TheVariants.{Tensor};
 ghost use Rattle.std.specs.List.{list_all};
-ghost use Rattle.mlir_resolve.specs.Types.{counted, elements};
+ghost use Rattle.mlir_scope.specs.Types.{counted, elements};
 ghost use Rattle.mlir_print.specs.Constants.{element_words, nested_words, is_splat, dense_words, words_text};
 ghost use Rattle.mlir_print.specs.OperationParts.{scalar_text_if, dense_text, constant_text_if};
 

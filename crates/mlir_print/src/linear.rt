@@ -3,7 +3,7 @@
 ghost use Rattle.std.specs.Prelude.{◌≡◌, ◌<◌, ◌^◌, ◌++◌, ◌∷◌, [], length, IfOk, OnOk, IsTrue};
 ghost use Rattle.std.specs.List.{list_all};
 ghost use Rattle.payload_ops.specs.declared.step.StepOp.TheVariants.{Linear};
-ghost use Rattle.mlir_print.specs.Maps.{linear_terms, has_map_numbers, step_map, listed, steps_maps};
+ghost use Rattle.mlir_print.specs.Maps.{linear_terms, linear_map, has_map_numbers, op_maps, steps_maps};
 ghost use Rattle.mlir_print.specs.MapParts.{with_texts};
 
 use crate::aliases::{Aliases, add_maps};
@@ -33,36 +33,33 @@ fn one_result(alloc: Global, constant: i64, terms: List<(u32, i64)>) -> Result<L
     Ok(all)
 }
 
-/// The map of a linear step: one dimension for each term, and one result. `None` exactly where there
-/// are 2^32 terms or more.
-pub fn linear_map(
-    alloc: Global,
-    constant: i64,
-    terms: &[(Arg, i64)],
-) -> Result<Option<AffineMap>, Memory>
+/// The map of a linear step: one dimension for each term, and one result. A map of 2^32 dimensions or
+/// more, which 32 bits can't number, is told as want of memory.
+pub fn linear_map(alloc: Global, constant: i64, terms: &[(Arg, i64)]) -> Result<AffineMap, Memory>
     requires { IsTrue (has_map_numbers (Linear constant terms.now)) }
-    ensures { IfOk result (λ map. map ≡ step_map (Linear constant terms.now)) }
+    ensures { IfOk result (λ map. map ≡ linear_map constant terms.now) }
 {
     let dims = terms.len();
     if dims >= 1 << 32 {
-        return Ok(None);
+        return Err(Memory);
     }
     let terms = linear_terms(alloc, terms)?;
     let results = one_result(alloc, constant, terms)?;
-    Ok(AffineMap::new(dims as u32, results))
+    match AffineMap::new(dims as u32, results) {
+        Some(map) => Ok(map),
+        None => Err(Memory),
+    }
 }
 
 /// Adds the map of a step that has one.
 fn add_step(aliases: &mut Aliases, step: &PayloadStep) -> Result<(), Memory>
     requires { IsTrue (has_map_numbers step.now.op) }
-    ensures { OnOk result (aliases.new ≡ with_texts aliases.old (listed (step_map step.now.op))) }
+    ensures { OnOk result (aliases.new ≡ with_texts aliases.old (op_maps step.now.op)) }
 {
     match &step.op {
         StepOp::Linear { constant, terms } => {
-            match linear_map(aliases.alloc(), *constant, terms.as_slice())? {
-                Some(map) => aliases.add(&map),
-                None => Ok(()),
-            }
+            let map = linear_map(aliases.alloc(), *constant, terms.as_slice())?;
+            aliases.add(&map)
         }
         _ => Ok(()),
     }

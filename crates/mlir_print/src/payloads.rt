@@ -6,11 +6,11 @@ ghost use Rattle.payload_ops.specs.declared.step.Arg.TheVariants.{Step};
 ghost use Rattle.payload_ops.specs.declared.step.StepOp.TheVariants.{Linear};
 ghost use Rattle.payload_ops.specs.Payload.{arg_type};
 ghost use Rattle.mlir_print.specs.Names.{given_text, local_name};
-ghost use Rattle.mlir_print.specs.Maps.{has_map_numbers, step_map};
+ghost use Rattle.mlir_print.specs.Maps.{has_map_numbers, linear_map};
 ghost use Rattle.mlir_print.specs.Payloads.{type_in};
 ghost use Rattle.mlir_print.specs.Types.{elem_text};
 ghost use Rattle.mlir_print.specs.Literals.{literal_text};
-ghost use Rattle.mlir_print.specs.PayloadParts.{block_arg_text, block_args_text, local_text, operands_text, typed_text, binary_step_text, compare_step_text, select_step_text, conversion_text, cast_step_text, index_step_text, arguments_text, apply_text, linear_text_if, operation_text, step_text, steps_text, yield_text, block_text, region_text};
+ghost use Rattle.mlir_print.specs.PayloadParts.{block_arg_text, block_args_text, local_text, operands_text, typed_text, binary_step_text, compare_step_text, select_step_text, conversion_text, cast_step_text, index_step_text, arguments_text, apply_text, operation_text, step_text, steps_text, yield_text, block_text, region_text};
 
 use crate::aliases::{Aliases, write_use};
 use crate::linear::linear_map;
@@ -18,7 +18,7 @@ use crate::literals::write_literal;
 use crate::names::Given;
 use crate::types::{write_elem, write_name, write_number, write_unbuilt};
 use affine_maps::AffineMap;
-use mlir_resolve::{Cast, binary_text, cast_text, predicate_text};
+use mlir_scope::{Cast, binary_text, cast_text, predicate_text};
 use payload_ops::{Arg, BinOp, ElemTy, Memory, Payload, PayloadStep, Predicate, StepOp};
 
 /// A payload, where the numbers of its arguments and of its results begin, and the aliases of maps.
@@ -270,12 +270,10 @@ fn write_linear(
     terms: &[(Arg, i64)],
 ) -> Result<(), Memory>
     requires { IsTrue (has_map_numbers (Linear constant terms.now)) }
-    ensures { OnOk result (out.new.items ≡ out.old.items ++ linear_text_if inside.now.aliases.now inside.now.args inside.now.results inside.now.payload.now (step_map (Linear constant terms.now)) terms.now) }
+    ensures { OnOk result (out.new.items ≡ out.old.items ++ apply_text inside.now.aliases.now inside.now.args inside.now.results inside.now.payload.now (linear_map constant terms.now) terms.now) }
 {
-    match linear_map(inside.aliases.alloc(), constant, terms)? {
-        Some(map) => write_apply(out, inside, &map, terms),
-        None => write_unbuilt(out),
-    }
+    let map = linear_map(inside.aliases.alloc(), constant, terms)?;
+    write_apply(out, inside, &map, terms)
 }
 
 fn write_operation(out: &mut Vec<u8>, inside: &Inside<'_>, step: &PayloadStep) -> Result<(), Memory>

@@ -31,17 +31,17 @@ use Rattle.script_syntax.specs.declared.tree.lines.Sequence.{Sequence}
 use Rattle.script_read.specs.declared.script.Script.{Script}
 use Rattle.script_read.specs.Resolve as scripts
 use Rattle.mlir_file.specs.declared.file.File.{File}
-use Rattle.mlir_resolve.specs.declared.names.Scope.{Scope}
+use Rattle.mlir_scope.specs.declared.names.Scope.{Scope}
 use Rattle.mlir_read.specs.declared.files.Stage.{Stage}
 use Rattle.mlir_read.specs.declared.files.Stage.TheVariants.{Start, Functions, Scripted, Closed}
 use Rattle.mlir_read.specs.declared.files.FileScope.{FileScope}
 use Rattle.mlir_lex.specs.declared.fault.Fault.{Fault}
 use Rattle.mlir_lex.specs.declared.fault.Fault.TheVariants.{Syntax, Twice, Limit}
 use Rattle.mlir_lex.specs.Chain.{and_then, demand, each, thread}
-use Rattle.mlir_resolve.specs.Names.{Entry, place}
-use Rattle.mlir_resolve.specs.Maps.{AliasShape, alias_in}
-use Rattle.mlir_resolve.specs.Types.{type_at}
-use Rattle.mlir_resolve.specs.Scope.{value_id, typed_as, params_of}
+use Rattle.mlir_scope.specs.Names.{Entry, place}
+use Rattle.mlir_scope.specs.Maps.{AliasShape, alias_in}
+use Rattle.mlir_scope.specs.Types.{type_at}
+use Rattle.mlir_scope.specs.Scope.{value_id, typed_as, params_of}
 use Rattle.mlir_resolve.specs.Operations.{statements_of, room}
 
 -- ---- names

@@ -9,7 +9,7 @@ use crate::functions::read_function;
 use mlir_file::File;
 use mlir_ir::{Func, Module};
 use mlir_lex::{Fault, Refused};
-use mlir_resolve::{Aliases, NameList, read_alias};
+use mlir_scope::{Aliases, NameList, read_alias};
 use mlir_syntax::{AliasLine, Enclosed, Function, Item, ModuleAttributes, ModuleRest, Text};
 use payload_ops::List;
 use script_read::{Script, resolve_script};

@@ -4,16 +4,14 @@ ghost use Rattle.std.specs.Prelude.{◌≡◌, ◌<◌, OnOk, [], ◌∷◌, map
 ghost use Rattle.std.specs.List.{list_all};
 ghost use Rattle.mlir_ir.specs.declared.tree.OpKind.TheVariants.{Return};
 ghost use Rattle.mlir_lex.specs.Chain.{Agree, Leaves};
-ghost use Rattle.mlir_resolve.specs.Scope.{IsSound, IsOpening};
+ghost use Rattle.mlir_scope.specs.Scope.{IsSound, IsOpening};
 ghost use Rattle.mlir_read.specs.Resolve.{is_ascii, symbol_of, name_of, unknown, result_at, results_from, results_of, word_in, value_ids, more_return_types, returned_of, return_of, opened, body_of, function_of, IsFileSound};
 
 use crate::files::FileScope;
 use mlir_ir::{Func, Op, OpId, OpKind, Ty, ValueId, Which};
 use mlir_lex::{Fault, Refused};
-use mlir_resolve::{
-    Aliases, NameList, Names, Scope, read_params, read_statements, room, type_at, typed_as,
-    value_id,
-};
+use mlir_resolve::{read_statements, room};
+use mlir_scope::{Aliases, NameList, Names, Scope, read_params, type_at, typed_as, value_id};
 use mlir_syntax::{
     Function, NextValue, ResultTypes, ReturnName, ReturnType, Returned, ReturnedValues,
     SeveralResults,

@@ -1,7 +1,7 @@
 //! Reading: from a text to the file that it stands for.
 //!
 //! `read_file` reads a text of the module language of MLIR: its tokens (`mlir_lex`), their tree (`mlir_syntax`), and what the
-//! tree stands for (`resolve_text`, over `mlir_resolve` and, for scripts, `script_read`). It answers a [`File`], or the first
+//! tree stands for (`resolve_text`, over `mlir_scope`, `mlir_resolve` and, for scripts, `script_read`). It answers a [`File`], or the first
 //! fault as a [`ReadError`].
 //!
 //! What a text stands for is `StandsFor` in specs/Reading.antt, and what it is refused for is `reading` there. What a tree

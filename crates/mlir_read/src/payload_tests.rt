@@ -208,6 +208,10 @@ fn refuses_what_the_profile_lacks(rt: HostRuntime) -> Result<(), Fail> {
             46,
         ),
         (
+            "%i = linalg.index 0 : index %s = affine.apply #m(%i)[%i] : index linalg.yield %x : i8",
+            46,
+        ),
+        (
             "%s = affine.apply affine_map<() -> (1, 2)>() linalg.yield %x : i8",
             18,
         ),

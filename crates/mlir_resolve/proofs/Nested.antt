@@ -1,9 +1,9 @@
 -- Loops over extents, and over the items of a list.
-use Rattle.std.proofs.Common.{◌≡◌, ◌<◌, ◌≤◌, ℕ, ◌+◌, ◌-◌, ◌*◌, suc, zero, List, [], ◌∷◌, length, drop, map, get_or, Option, Some, None, refl, sym, ap, ◌∙◌, arith, mul_assoc}
+use Rattle.std.proofs.Common.{◌≡◌, ◌<◌, ◌≤◌, ℕ, ◌+◌, ◌-◌, ◌*◌, suc, List, length, drop, get_or, Option, Some, None, sym, ap, ◌∙◌, arith, mul_assoc}
 use Rattle.std.proofs.Math.Seq.{drop-cons}
 use Rattle.mlir_ir.specs.declared.tree.Extent.{Extent}
 use Rattle.mlir_resolve.specs.declared.dense.Mark.{Mark}
-use Rattle.mlir_resolve.specs.Types.{counted, elements}
+use Rattle.mlir_scope.specs.Types.{counted, elements}
 use Rattle.mlir_resolve.specs.Constants.{times, and_behind}
 
 -- one more extent

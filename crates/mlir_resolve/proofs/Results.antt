@@ -15,18 +15,18 @@ use Rattle.mlir_syntax.specs.declared.tree.operations.Operation.TheVariants as o
 use Rattle.mlir_resolve.specs.declared.dense.Mark.{Mark}
 use Rattle.mlir_resolve.specs.declared.dense.Wanted.TheVariants.{Whole}
 use Rattle.mlir_lex.specs.Chain.{each}
-use Rattle.mlir_resolve.specs.Names.{Entry}
-use Rattle.mlir_resolve.specs.Types.{type_at}
-use Rattle.mlir_resolve.specs.Scope.{IsHeld}
-use Rattle.mlir_resolve.specs.Literals.{literal_of}
+use Rattle.mlir_scope.specs.Names.{Entry}
+use Rattle.mlir_scope.specs.Types.{type_at}
+use Rattle.mlir_scope.specs.Scope.{IsHeld}
+use Rattle.mlir_scope.specs.Literals.{literal_of}
 use Rattle.mlir_resolve.specs.Constants.{constant, of_integer, scalar_of, nested_from, elements_width, elements_from, shape_marks, cells_in, dense_of, constant_of, result_meaning}
-use Rattle.mlir_resolve.specs.Maps.{AliasShape, map_of}
+use Rattle.mlir_scope.specs.Maps.{AliasShape, map_of}
 use Rattle.mlir_resolve.specs.Generics.{iterators_from, operands_of, generic_with}
-use Rattle.mlir_resolve.specs.Payload.{payload_of}
+use Rattle.mlir_payload.specs.Payload.{payload_of}
 use Rattle.mlir_resolve.specs.Structured.{axis_of, typed_id, output_of, factors_of, product_of, moved_of}
 use Rattle.mlir_resolve.specs.Operations.{kind_of}
-use Rattle.mlir_resolve.proofs.Keeps.{then_ok, ok_same}
-use Rattle.mlir_resolve.proofs.Ranges.{literal_is}
+use Rattle.mlir_scope.proofs.Keeps.{then_ok, ok_same}
+use Rattle.mlir_scope.proofs.Ranges.{literal_is}
 
 abbrev Fits : ℕ → Ty × OpKind → Type 0
 Fits n k = IsHeld (result_meaning n k.0 k.1)

@@ -1,11 +1,10 @@
 -- Constants (Arith dialect, "arith.constant"; Builtin dialect, "DenseIntOrFPElementsAttr").
-use Rattle.std.specs.Prelude.{ℕ, zero, suc, Bool, true, false, not, ◌&&◌, ◌==◌, nat_lt, nat_le, List, [], ◌∷◌, map, replicate, codes, Result, Ok, Err, Option, Some, None, if◌then◌else◌, is_none}
+use Rattle.std.specs.Prelude.{ℕ, zero, suc, Bool, true, false, not, ◌==◌, nat_lt, nat_le, List, [], ◌∷◌, replicate, codes, Result, Ok, Err, Option, Some, None, if◌then◌else◌, is_none}
 use Rattle.std.specs.Str.{bytes_eq}
 use Rattle.payload_ops.specs.Bits.{reduce}
-use Rattle.payload_ops.specs.declared.kinds.ElemTy.{ElemTy}
 use Rattle.payload_ops.specs.declared.kinds.ElemTy.TheVariants.{Int}
 use Rattle.mlir_ir.specs.declared.tree.Ty.{Ty}
-use Rattle.mlir_ir.specs.declared.tree.Ty.TheVariants.{Scalar, Tensor, Vector}
+use Rattle.mlir_ir.specs.declared.tree.Ty.TheVariants.{Scalar, Tensor}
 use Rattle.mlir_ir.specs.declared.tree.Extent.{Extent}
 use Rattle.mlir_ir.specs.declared.tree.Extent.TheVariants.{Fixed, Any}
 use Rattle.mlir_ir.specs.declared.tree.OpKind.{OpKind}
@@ -17,20 +16,19 @@ use Rattle.mlir_syntax.specs.declared.tree.constants.DensePiece.{DensePiece}
 use Rattle.mlir_syntax.specs.declared.tree.constants.DenseLiteral.{DenseLiteral}
 use Rattle.mlir_syntax.specs.declared.tree.constants.Literal.{Literal}
 use Rattle.mlir_syntax.specs.declared.tree.constants.Literal.TheVariants as literals
-use Rattle.mlir_syntax.specs.declared.tree.literals.SignedNumber.{SignedNumber}
 use Rattle.mlir_syntax.specs.declared.tree.literals.ScalarLiteral.{ScalarLiteral}
 use Rattle.mlir_syntax.specs.declared.tree.literals.ScalarLiteral.TheVariants as scalars
 use Rattle.mlir_resolve.specs.declared.dense.Mark.{Mark}
 use Rattle.mlir_resolve.specs.declared.dense.Mark.TheVariants as marks
 use Rattle.mlir_resolve.specs.declared.dense.Wanted.{Wanted}
 use Rattle.mlir_resolve.specs.declared.dense.Wanted.TheVariants as wanted
-use Rattle.mlir_resolve.specs.declared.names.Meaning.{Meaning}
-use Rattle.mlir_resolve.specs.declared.names.Meaning.TheVariants.{Held, Constant}
+use Rattle.mlir_scope.specs.declared.names.Meaning.{Meaning}
+use Rattle.mlir_scope.specs.declared.names.Meaning.TheVariants.{Held, Constant}
 use Rattle.mlir_lex.specs.declared.fault.Fault.{Fault}
 use Rattle.mlir_lex.specs.declared.fault.Fault.TheVariants.{Syntax, Unsupported, Number}
 use Rattle.mlir_lex.specs.Chain.{and_then, demand}
-use Rattle.mlir_resolve.specs.Literals.{digits_value, signed_by, most_of, literal_of}
-use Rattle.mlir_resolve.specs.Types.{type_at, elements}
+use Rattle.mlir_scope.specs.Literals.{digits_value, signed_by, most_of, literal_of}
+use Rattle.mlir_scope.specs.Types.{type_at, elements}
 
 -- ---- the tokens of a dense literal
 

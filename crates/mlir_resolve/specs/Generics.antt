@@ -22,11 +22,11 @@ use Rattle.mlir_syntax.specs.declared.tree.generics.Generic.{Generic}
 use Rattle.mlir_lex.specs.declared.fault.Fault.{Fault}
 use Rattle.mlir_lex.specs.declared.fault.Fault.TheVariants.{Syntax, Limit}
 use Rattle.mlir_lex.specs.Chain.{and_then, demand, each}
-use Rattle.mlir_resolve.specs.Names.{Entry}
-use Rattle.mlir_resolve.specs.Maps.{AliasShape, map_of}
-use Rattle.mlir_resolve.specs.Types.{type_at, elem_of}
-use Rattle.mlir_resolve.specs.Scope.{value, typed_as}
-use Rattle.mlir_resolve.specs.Payload.{payload_of}
+use Rattle.mlir_scope.specs.Names.{Entry}
+use Rattle.mlir_scope.specs.Maps.{AliasShape, map_of}
+use Rattle.mlir_scope.specs.Types.{type_at}
+use Rattle.mlir_scope.specs.Scope.{typed_as, operand_of}
+use Rattle.mlir_payload.specs.Payload.{payload_of}
 
 -- ---- iterators
 
@@ -44,11 +44,6 @@ iterators_from k [] = Ok []
 iterators_from k (i ∷ is) = and_then (iterator_of k i) (λ x. and_then (iterators_from (suc k) is) (λ xs. Ok (x ∷ xs)))
 
 -- ---- operands
-
--- operand k of a generic: its number and its element type
-abbrev pub operand_of : List Entry → ℕ → TokenShape → Result (ValueId × ElemTy) Fault
-operand_of env k t =
-    and_then (value env t) (λ v. and_then (demand (nat_lt k 64) (Limit limits.Operands t.start)) (λ _. Ok (record { 0 = v.0 }, elem_of v.1)))
 
 abbrev pub more_inputs : List Entry → ℕ → List NextInput → Result (List (ValueId × ElemTy)) Fault
 more_inputs env k [] = Ok []

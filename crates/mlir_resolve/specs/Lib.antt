@@ -1,12 +1,4 @@
-pub mod Names
-pub mod Types
-pub mod Literals
-pub mod Words
-pub mod Scope
-pub mod Steps
-pub mod Payload
 pub mod Constants
-pub mod Maps
 pub mod Generics
 pub mod Structured
 pub mod Operations

@@ -1,10 +1,6 @@
 -- What an operation of a tree stands for, or its first fault: one chain in the order of the tokens.
 -- Operations and values are numbered 0, 1 and so on in the order in which they are defined.
-use Rattle.std.specs.Prelude.{ℕ, suc, List, [], ◌∷◌, ◌++◌, Result, Ok, Err, Option, nat_lt, Bool, map, length, is_some}
-use Rattle.payload_ops.specs.declared.kinds.ElemTy.{ElemTy}
-use Rattle.payload_ops.specs.Shape.{PayloadShape}
-use Rattle.affine_maps.specs.Shape.{MapShape}
-use Rattle.affine_maps.specs.Map.{identity_of}
+use Rattle.std.specs.Prelude.{ℕ, suc, List, [], ◌∷◌, ◌++◌, Result, Ok, nat_lt}
 use Rattle.mlir_ir.specs.declared.tree.Ty.{Ty}
 use Rattle.mlir_ir.specs.declared.tree.OpKind.{OpKind}
 use Rattle.mlir_ir.specs.declared.tree.OpKind.TheVariants as kinds
@@ -14,14 +10,14 @@ use Rattle.text_format.specs.Token.{TokenShape}
 use Rattle.mlir_syntax.specs.declared.tree.operations.Operation.{Operation}
 use Rattle.mlir_syntax.specs.declared.tree.operations.Operation.TheVariants as operations
 use Rattle.mlir_syntax.specs.declared.tree.operations.Statement.{Statement}
-use Rattle.mlir_resolve.specs.declared.names.Scope.{Scope}
+use Rattle.mlir_scope.specs.declared.names.Scope.{Scope}
 use Rattle.mlir_lex.specs.declared.fault.Fault.{Fault}
 use Rattle.mlir_lex.specs.declared.fault.Fault.TheVariants.{Limit}
 use Rattle.mlir_lex.specs.Chain.{and_then, demand, thread}
-use Rattle.mlir_resolve.specs.Names.{Entry, entry}
-use Rattle.mlir_resolve.specs.Maps.{AliasShape}
-use Rattle.mlir_resolve.specs.Types.{type_at}
-use Rattle.mlir_resolve.specs.Scope.{fresh}
+use Rattle.mlir_scope.specs.Names.{Entry, entry}
+use Rattle.mlir_scope.specs.Maps.{AliasShape}
+use Rattle.mlir_scope.specs.Types.{type_at}
+use Rattle.mlir_scope.specs.Scope.{fresh}
 use Rattle.mlir_resolve.specs.Constants.{constant_of, result_meaning}
 use Rattle.mlir_resolve.specs.Generics.{generic_of}
 use Rattle.mlir_resolve.specs.Structured.{fill_of, product_of, transpose_of, broadcast_of}

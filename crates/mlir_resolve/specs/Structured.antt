@@ -1,5 +1,5 @@
 -- What a structured operation that has a name of its own stands for, or its first fault: one chain in the order of the tokens.
-use Rattle.std.specs.Prelude.{ℕ, Bool, true, false, nat_le, ◌==◌, List, [], ◌∷◌, Result, Ok, Err}
+use Rattle.std.specs.Prelude.{ℕ, Bool, true, false, nat_le, ◌==◌, List, Result, Ok}
 use Rattle.mlir_ir.specs.declared.tree.Ty.{Ty}
 use Rattle.mlir_ir.specs.declared.tree.ValueId.{ValueId}
 use Rattle.mlir_ir.specs.declared.tree.OpKind.{OpKind}
@@ -15,10 +15,10 @@ use Rattle.mlir_syntax.specs.declared.tree.structured.Broadcast.{Broadcast}
 use Rattle.mlir_lex.specs.declared.fault.Fault.{Fault}
 use Rattle.mlir_lex.specs.declared.fault.Fault.TheVariants.{Number}
 use Rattle.mlir_lex.specs.Chain.{and_then, demand, each}
-use Rattle.mlir_resolve.specs.Names.{Entry}
-use Rattle.mlir_resolve.specs.Types.{type_at}
-use Rattle.mlir_resolve.specs.Literals.{digits_value, is_negative, place_of_number}
-use Rattle.mlir_resolve.specs.Scope.{value_id, type_of, typed_as}
+use Rattle.mlir_scope.specs.Names.{Entry}
+use Rattle.mlir_scope.specs.Types.{type_at}
+use Rattle.mlir_scope.specs.Literals.{digits_value, is_negative, place_of_number}
+use Rattle.mlir_scope.specs.Scope.{value_id, type_of, typed_as}
 
 -- an axis or an entry of an order lies from 0 to 1,048,576
 abbrev pub is_axis : Bool → ℕ → Bool

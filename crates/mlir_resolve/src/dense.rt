@@ -4,12 +4,11 @@ ghost use Rattle.std.specs.Prelude.{◌≡◌, ◌≤◌, ◌==◌, IfOk, IfSome
 ghost use Rattle.mlir_resolve.specs.declared.dense.Wanted.TheVariants.{Whole};
 ghost use Rattle.mlir_lex.specs.Chain.{Agree};
 ghost use Rattle.mlir_resolve.specs.Constants.{mark_of, with_item, with_close, with_comma, with_first, with_number, with_next, behind, may_end, nested_from, place_behind, bit_of, truth_in, number_in, elements_from, is_shape_mark, shape_marks, behind_element, behind_open, behind_close, behind_nested, is_end, cells_by};
-ghost use Rattle.mlir_resolve.specs.Types.{elements};
+ghost use Rattle.mlir_scope.specs.Types.{elements};
 
-use crate::literals::{digits_value, most_of, signed_by};
-use crate::typing::counted;
 use mlir_ir::Extent;
 use mlir_lex::{Fault, Refused};
+use mlir_scope::{counted, digits_value, most_of, signed_by};
 use mlir_syntax::DensePiece;
 use payload_ops::{ElemTy, List, Memory, Width, wrap};
 use std::alloc::Global;

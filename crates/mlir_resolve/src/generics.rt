@@ -2,19 +2,16 @@
 
 ghost use Rattle.std.specs.Prelude.{◌≡◌, ◌<◌, ◌≤◌, length, IfOk, OnOk, map};
 ghost use Rattle.mlir_lex.specs.Chain.{Agree, each};
-ghost use Rattle.mlir_resolve.specs.Maps.{map_of};
-ghost use Rattle.mlir_resolve.specs.Scope.{IsOuter};
-ghost use Rattle.mlir_resolve.specs.Payload.{payload_of};
+ghost use Rattle.mlir_scope.specs.Maps.{map_of};
+ghost use Rattle.mlir_scope.specs.Scope.{IsOuter};
+ghost use Rattle.mlir_payload.specs.Payload.{payload_of};
 ghost use Rattle.mlir_resolve.specs.Generics.{iterator_of, iterators_from, inputs_of, more_types, input_types, typed_inputs, typed_output, operands_of, generic_with, generic_of};
 
-use crate::maps::{Aliases, read_map};
-use crate::names::Names;
-use crate::payloads::read_payload;
-use crate::typing::type_at;
-use crate::values::{operand, typed_as};
 use affine_maps::AffineMap;
 use mlir_ir::{Iter, OpKind, Ty, ValueId, Which};
 use mlir_lex::{Fault, Refused};
+use mlir_payload::read_payload;
+use mlir_scope::{Aliases, Names, operand, read_map, type_at, typed_as};
 use mlir_syntax::{
     Generic, Inputs, IteratorType, MapUse, NextInput, NextType, Operands, Output, Region,
 };

@@ -3,23 +3,20 @@
 ghost use Rattle.std.specs.Prelude.{◌≡◌, ◌<◌, None, Ok, [], IfOk, OnOk};
 ghost use Rattle.mlir_ir.specs.declared.tree.OpKind.TheVariants as kinds;
 ghost use Rattle.mlir_lex.specs.Chain.{Agree, Leaves, and_then};
-ghost use Rattle.mlir_resolve.specs.Names.{find};
-ghost use Rattle.mlir_resolve.specs.Types.{type_at};
-ghost use Rattle.mlir_resolve.specs.Scope.{IsOuter, IsSound, IsHeld};
+ghost use Rattle.mlir_scope.specs.Names.{find};
+ghost use Rattle.mlir_scope.specs.Types.{type_at};
+ghost use Rattle.mlir_scope.specs.Scope.{IsOuter, IsSound, IsHeld};
 ghost use Rattle.mlir_resolve.specs.Constants.{result_meaning};
 ghost use Rattle.mlir_resolve.specs.Operations.{room, name_in, kind_of, operation_of, next_scope, numbered_op, statement_of, statements_of};
 
 use crate::constants::{read_constant, result_meaning};
 use crate::generics::read_generic;
-use crate::maps::Aliases;
-use crate::names::{Names, Scope};
 use crate::structured::{
     read_batch_matmul, read_broadcast, read_fill, read_matmul, read_transpose,
 };
-use crate::typing::type_at;
-use crate::values::fresh;
 use mlir_ir::{Op, OpId, OpKind, Ty, ValueId, Which};
 use mlir_lex::{Fault, Refused};
+use mlir_scope::{Aliases, Names, Scope, fresh, type_at};
 use mlir_syntax::{Empty, Operation, Statement};
 use payload_ops::{List, Memory};
 use std::alloc::Global;

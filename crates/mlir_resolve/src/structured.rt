@@ -5,12 +5,11 @@ ghost use Rattle.mlir_ir.specs.declared.tree.OpKind.TheVariants as kinds;
 ghost use Rattle.mlir_lex.specs.Chain.{Agree, each};
 ghost use Rattle.mlir_resolve.specs.Structured.{is_axis, axis_of, typed_id, output_of, fill_of, factors_of, product_of, moved_of, transpose_of, broadcast_of};
 
-use crate::literals::{digits_value, is_negative, sign_place};
-use crate::names::Names;
-use crate::typing::type_at;
-use crate::values::{type_of, typed_as, value_id};
 use mlir_ir::{OpKind, Ty, ValueId};
 use mlir_lex::{Fault, Refused};
+use mlir_scope::{
+    Names, digits_value, is_negative, sign_place, type_at, type_of, typed_as, value_id,
+};
 use mlir_syntax::{
     BatchMatmul, Broadcast, Factors, Fill, Matmul, Output, SignedNumber, SourceAndOutput, Transpose,
 };

@@ -1,8 +1,6 @@
 -- The lines of aliases: spelled, of their classes, and well spaced.
-use Rattle.std.proofs.Common.{◌≡◌, ◌<◌, ◌^◌, ℕ, zero, suc, ◌+◌, Bool, true, false, cond, nat_lt, List, [], ◌∷◌, ◌++◌, map, length, Some, None, refl, sym, subst, arith, append_assoc, codes}
-use Rattle.std.specs.Prelude.{unwrap_or}
-use Rattle.std.specs.List.{AllByRecursion, position_or_len}
-use Rattle.std.proofs.lemmas.Bool.{ltb-true}
+use Rattle.std.proofs.Common.{ℕ, zero, suc, ◌+◌, List, [], ◌∷◌, ◌++◌, map, refl, sym, subst, append_assoc, codes}
+use Rattle.std.specs.List.{AllByRecursion}
 use Rattle.affine_maps.specs.Shape.{MapShape}
 use Rattle.mlir_ir.specs.declared.tree.Op.{Op}
 use Rattle.mlir_ir.specs.Shape.{FuncShape}
@@ -16,7 +14,7 @@ use Rattle.mlir_syntax.specs.declared.tree.files.Item.TheVariants as items
 use Rattle.mlir_syntax.specs.Files as file_grammar
 use Rattle.mlir_print.specs.Maps.{written_at, alias_line_at, alias_lines_at, alias_text, alias_number, alias_of, maps_used}
 use Rattle.text_format.specs.Writers.{Writer, each_of, made}
-use Rattle.mlir_roundtrip.specs.Maps.{ArePrintableMaps, is_text_of}
+use Rattle.mlir_roundtrip.specs.Maps.{ArePrintableMaps}
 use Rattle.text_format.proofs.Written.{LeavesFit, both_fit}
 use Rattle.mlir_roundtrip.proofs.Maps.{written-w, written_fits, written_then}
 use Rattle.text_format.proofs.Written.{IsWritten, AreWritten, put-w, lay-w, sp-w, pair-w, made-w, blank-w}
@@ -48,35 +46,31 @@ lines_fit n (m ∷ ms) ws h =
 
 -- ---- well spaced
 
-alias_name : (n : ℕ) → n < 2 ^ 64 → IsName Alias (alias_text n)
-alias_name zero s = first_map_name
-alias_name (suc n) s = map_name (suc n) s
+alias_name : (n : ℕ) → IsName Alias (alias_text n)
+alias_name zero = first_map_name
+alias_name (suc n) = map_name (suc n)
 
-pub lines_apart : (n : ℕ) (ms : List MapShape) (ws : List (Writer Item)) → n + length ms < 2 ^ 64 → ArePrintableMaps ms → IsApart (each_of ws).pieces → IsApart (each_of (lines_before n ms ws)).pieces
-lines_apart n [] ws few p h = h
-lines_apart n (m ∷ ms) ws few p h =
-    let more = lines_apart (n + 1) ms ws (omega arith) p.1 h in
-    leaf_name classes.Alias (alias_name n (omega arith)) space_opens (space (fixed_closed lexemes.Equals refl (space
+pub lines_apart : (n : ℕ) (ms : List MapShape) (ws : List (Writer Item)) → ArePrintableMaps ms → IsApart (each_of ws).pieces → IsApart (each_of (lines_before n ms ws)).pieces
+lines_apart n [] ws p h = h
+lines_apart n (m ∷ ms) ws p h =
+    let more = lines_apart (n + 1) ms ws p.1 h in
+    leaf_name classes.Alias (alias_name n) space_opens (space (fixed_closed lexemes.Equals refl (space
     (subst (λ (ps : List Piece). IsApart ps) (sym (append_assoc (written_at m).pieces (Gap (codes "\n") ∷ []) (each_of (lines_before (n + 1) ms ws)).pieces))
-    (written_then m p.0.is_map p.0.dims (line more))))))
+    (written_then m p.0 (line more))))))
 
 -- ---- the names of uses
 
-number_if : (b : Bool) (n len : ℕ) → nat_lt n len ≡ b → len < 2 ^ 64 → unwrap_or (cond b (Some n) None) 0 < 2 ^ 64
-number_if true n len e s = let lt = ltb-true n len e in omega arith
-number_if false n len e s = omega arith
+pub use_named : (al : List MapShape) (m : MapShape) → IsName Alias (alias_of al m)
+use_named al m = alias_name (alias_number al m)
 
-pub use_named : (al : List MapShape) (m : MapShape) → length al < 2 ^ 64 → IsName Alias (alias_of al m)
-use_named al m s = alias_name (alias_number al m) (number_if (nat_lt (position_or_len (is_text_of m) al) (length al)) (position_or_len (is_text_of m) al) (length al) refl s)
+pub uses_named : (al ms : List MapShape) → AllByRecursion (λ m. IsName Alias (alias_of al m)) ms
+uses_named al [] = tt
+uses_named al (m ∷ ms) = (use_named al m, uses_named al ms)
 
-pub uses_named : (al ms : List MapShape) → length al < 2 ^ 64 → AllByRecursion (λ m. IsName Alias (alias_of al m)) ms
-uses_named al [] s = tt
-uses_named al (m ∷ ms) s = (use_named al m s, uses_named al ms s)
+pub ops_named : (al : List MapShape) (os : List Op) → AllByRecursion (λ o. AllByRecursion (λ m. IsName Alias (alias_of al m)) (maps_used o.kind)) os
+ops_named al [] = tt
+ops_named al (o ∷ os) = (uses_named al (maps_used o.kind), ops_named al os)
 
-pub ops_named : (al : List MapShape) (os : List Op) → length al < 2 ^ 64 → AllByRecursion (λ o. AllByRecursion (λ m. IsName Alias (alias_of al m)) (maps_used o.kind)) os
-ops_named al [] s = tt
-ops_named al (o ∷ os) s = (uses_named al (maps_used o.kind) s, ops_named al os s)
-
-pub funcs_named : (al : List MapShape) (fs : List FuncShape) → length al < 2 ^ 64 → AllByRecursion (λ f. AllByRecursion (λ o. AllByRecursion (λ m. IsName Alias (alias_of al m)) (maps_used o.kind)) f.body) fs
-funcs_named al [] s = tt
-funcs_named al (f ∷ fs) s = (ops_named al f.body s, funcs_named al fs s)
+pub funcs_named : (al : List MapShape) (fs : List FuncShape) → AllByRecursion (λ f. AllByRecursion (λ o. AllByRecursion (λ m. IsName Alias (alias_of al m)) (maps_used o.kind)) f.body) fs
+funcs_named al [] = tt
+funcs_named al (f ∷ fs) = (ops_named al f.body, funcs_named al fs)

@@ -1,13 +1,15 @@
 -- The aliases of a module: each map that is used has one, under a name of its own, whose line reads back.
-use Rattle.std.proofs.Common.{◌≡◌, ◌<◌, ◌≤◌, ◌^◌, ℕ, zero, suc, ◌+◌, Bool, true, false, cond, not, ◌||◌, List, [], ◌∷◌, ◌++◌, map, length, Option, Some, None, Result, Ok, Err, refl, sym, ap, subst, ◌∙◌, arith, append_assoc, decimal}
+use Rattle.std.proofs.Common.{◌≡◌, ◌<◌, ◌≤◌, ℕ, zero, suc, ◌+◌, Bool, true, false, cond, not, ◌||◌, List, [], ◌∷◌, ◌++◌, map, length, Option, Some, None, Result, Ok, Err, refl, sym, ap, subst, ◌∙◌, arith, append_assoc}
 use Rattle.std.specs.Prelude.{position, unwrap_or}
 use Rattle.std.specs.List.{AllByRecursion, list_any, position_or_len}
 use Rattle.std.specs.Str.{bytes_eq}
 use Rattle.std.proofs.lemmas.List.{append-nil}
 use Rattle.std.proofs.lemmas.Bool.{lt-ltb}
 use Rattle.std.proofs.lemmas.Slice.Eq.{bytes_eq-Decides}
-use Rattle.std.proofs.lemmas.Fmt.{decimal_injective, decimal_nonempty}
+use Rattle.text_format.specs.Numerals.{numeral}
+use Rattle.text_format.proofs.Numerals.{numeral_some, numeral_injective}
 use Rattle.affine_maps.specs.Shape.{MapShape}
+use Rattle.affine_maps.specs.Map.{IsMap}
 use Rattle.affine_text.specs.Text.{text_of_map}
 use Rattle.affine_text.specs.Faults.{IsMapText, stream_of}
 use Rattle.affine_text.proofs.OneReading.{map_and_map}
@@ -20,19 +22,19 @@ use Rattle.mlir_syntax.specs.declared.tree.files.Item.TheVariants as items
 use Rattle.mlir_lex.specs.declared.fault.Fault.{Fault}
 use Rattle.mlir_lex.specs.Chain.{and_then}
 use Rattle.mlir_read.specs.declared.files.FileScope.{FileScope}
-use Rattle.mlir_resolve.specs.Maps.{AliasShape, aliased, alias_map, map_of}
+use Rattle.mlir_scope.specs.Maps.{AliasShape, aliased, alias_map, map_of}
 use Rattle.mlir_read.specs.Resolve.{alias_of, joined, items_of}
 use Rattle.mlir_print.specs.Maps.{alias_line_at, alias_lines_at, alias_text, alias_number, alias_of as text_of_alias, use_at, with_map, with_maps, with_ops, with_funcs, maps_used}
 use Rattle.text_format.specs.Writers.{Writer, each_of, made}
-use Rattle.mlir_roundtrip.specs.Maps.{IsPrintableMap, ArePrintableMaps, is_text_of, HasAlias, HaveAliases, OpsHaveAliases, FuncsHaveAliases, row, rows, with_aliases}
+use Rattle.mlir_roundtrip.specs.Maps.{ArePrintableMaps, is_text_of, HasAlias, HaveAliases, OpsHaveAliases, FuncsHaveAliases, row, rows, with_aliases}
 use Rattle.mlir_roundtrip.proofs.Maps.{written_found, no_symbols}
 
 -- ---- maps of one text are one
 
-pub one_map : (m o : MapShape) → IsPrintableMap m → IsPrintableMap o → text_of_map m ≡ text_of_map o → m ≡ o
+pub one_map : (m o : MapShape) → IsMap m → IsMap o → text_of_map m ≡ text_of_map o → m ≡ o
 one_map m o p q e =
-    let a = reads_back m [] true p.is_map p.dims in
-    let b = reads_back o [] true q.is_map q.dims in
+    let a = reads_back m [] true p in
+    let b = reads_back o [] true q in
     (map_and_map true (stream_of (text_of_map m ++ [])) m o (length (text_of_map m)) (length (text_of_map o)) a
     (subst (λ (t : List ℕ). IsMapText true (stream_of (t ++ [])) o (length (text_of_map o))) (sym e) b)).0
 
@@ -133,31 +135,31 @@ module _ (P : MapShape → Type 0) where
 
 -- ---- names of aliases differ
 
-alias_apart : (j k : ℕ) → j < 2 ^ 64 → k < 2 ^ 64 → alias_text j ≡ alias_text k → j ≡ k
-alias_apart zero zero a b e = refl
-alias_apart zero (suc k) a b e =
-    let some = decimal_nonempty (suc k) b in
-    let none : decimal (suc k) ≡ [] = cc e in
+alias_apart : (j k : ℕ) → alias_text j ≡ alias_text k → j ≡ k
+alias_apart zero zero e = refl
+alias_apart zero (suc k) e =
+    let some = numeral_some (suc k) in
+    let none : numeral (suc k) ≡ [] = cc e in
     absurd (omega (arith, some, ap (λ (ds : List ℕ). length ds) none))
-alias_apart (suc j) zero a b e =
-    let some = decimal_nonempty (suc j) a in
-    let none : decimal (suc j) ≡ [] = cc e in
+alias_apart (suc j) zero e =
+    let some = numeral_some (suc j) in
+    let none : numeral (suc j) ≡ [] = cc e in
     absurd (omega (arith, some, ap (λ (ds : List ℕ). length ds) none))
-alias_apart (suc j) (suc k) a b e = decimal_injective (suc j) (suc k) a b (cc e)
+alias_apart (suc j) (suc k) e = numeral_injective (suc j) (suc k) (cc e)
 
 other_if : (b : Bool) → (b ≡ true → ⊥) → b ≡ false
 other_if true f = absurd (f refl)
 other_if false f = refl
 
 -- an earlier alias has another name
-other_name : (j k : ℕ) → j < k → k < 2 ^ 64 → bytes_eq (alias_text j) (alias_text k) ≡ false
-other_name j k lt s = other_if (bytes_eq (alias_text j) (alias_text k)) (λ b. let same = alias_apart j k (omega arith) s ((bytes_eq-Decides (alias_text j) (alias_text k)).0 b) in absurd (omega (arith, same, lt)))
+other_name : (j k : ℕ) → j < k → bytes_eq (alias_text j) (alias_text k) ≡ false
+other_name j k lt = other_if (bytes_eq (alias_text j) (alias_text k)) (λ b. let same = alias_apart j k ((bytes_eq-Decides (alias_text j) (alias_text k)).0 b) in absurd (omega (arith, same, lt)))
 
 -- ---- what the aliases' lines stand for
 
 -- no alias has the name of this number or of a later one
 abbrev NoneFrom : ℕ → List AliasShape → Type 0
-NoneFrom n entries = (j : ℕ) → n ≤ j → j < 2 ^ 64 → aliased entries (alias_text j) ≡ None
+NoneFrom n entries = (j : ℕ) → n ≤ j → aliased entries (alias_text j) ≡ None
 
 aliased_if : (b : Bool) (a : AliasShape) (o p : Option AliasShape) → cond b (Some a) o ≡ None → (o ≡ None → p ≡ None) → cond b (Some a) p ≡ None
 aliased_if true a o p h f = absurd (cc h)
@@ -168,11 +170,11 @@ aliased_last [] a q h e = rw e refl
 aliased_last (x ∷ entries) a q h e = aliased_if (bytes_eq x.name q) x (aliased entries q) (aliased (entries ++ a ∷ []) q) h (λ k. aliased_last entries a q k e)
 
 none_next : (n : ℕ) (entries : List AliasShape) (m : MapShape) → NoneFrom n entries → NoneFrom (n + 1) (entries ++ row n m ∷ [])
-none_next n entries m h = λ j le lt. aliased_last entries (row n m) (alias_text j) (h j (omega arith) lt) (other_name n j (omega arith) lt)
+none_next n entries m h = λ j le. aliased_last entries (row n m) (alias_text j) (h j (omega arith)) (other_name n j (omega arith))
 
 -- the line of an alias defines it
-pub line_found : (s : FileScope) (n : ℕ) (m : MapShape) → aliased s.aliases (alias_text n) ≡ None → IsPrintableMap m → (at : ℕ) → alias_of s ((alias_line_at n m).tree at) ≡ Ok (with_aliases s (s.aliases ++ row n m ∷ []))
-line_found s n m new p at = rw (new, (λ (k : ℕ). written_found m true k p.is_map p.dims), (λ (k : ℕ). no_symbols m k)) refl
+pub line_found : (s : FileScope) (n : ℕ) (m : MapShape) → aliased s.aliases (alias_text n) ≡ None → IsMap m → (at : ℕ) → alias_of s ((alias_line_at n m).tree at) ≡ Ok (with_aliases s (s.aliases ++ row n m ∷ []))
+line_found s n m new p at = rw (new, (λ (k : ℕ). written_found m true k p), (λ (k : ℕ). no_symbols m k)) refl
 
 none_before : (r : Result (FileScope × List FuncShape) Fault) → and_then r (λ q. Ok (q.0, [] ++ q.1)) ≡ r
 none_before (Ok q) = refl
@@ -182,16 +184,16 @@ abbrev behind_line : List Item → Result FileScope Fault → Result (FileScope 
 behind_line more r = joined (and_then {A = FileScope} {B = FileScope × List FuncShape} r (λ t. Ok (t, []))) (λ t. items_of t more)
 
 -- behind the aliases' lines the aliases are those of the maps
-pub lines_found : (s : FileScope) (n : ℕ) (ms : List MapShape) (ws : List (Writer Item)) → NoneFrom n s.aliases → n + length ms < 2 ^ 64 → ArePrintableMaps ms → (at : ℕ)
+pub lines_found : (s : FileScope) (n : ℕ) (ms : List MapShape) (ws : List (Writer Item)) → NoneFrom n s.aliases → ArePrintableMaps ms → (at : ℕ)
     → (k : ℕ) × (items_of s ((each_of (map (made items.Alias) (alias_lines_at n ms) ++ ws)).tree at) ≡ items_of (with_aliases s (s.aliases ++ rows n ms)) ((each_of ws).tree k))
-lines_found s n [] ws new few p at = (at, ap (λ (entries : List AliasShape). items_of (with_aliases s entries) ((each_of ws).tree at)) (sym (append-nil s.aliases)))
-lines_found s n (m ∷ ms) ws new few p at =
+lines_found s n [] ws new p at = (at, ap (λ (entries : List AliasShape). items_of (with_aliases s entries) ((each_of ws).tree at)) (sym (append-nil s.aliases)))
+lines_found s n (m ∷ ms) ws new p at =
     let here = at + length (bytes_of (alias_line_at n m).pieces) in
     let later = (each_of (map (made items.Alias) (alias_lines_at (n + 1) ms) ++ ws)).tree (at + length (bytes_of (alias_line_at n m).pieces)) in
     let next = with_aliases s (s.aliases ++ row n m ∷ []) in
-    let more = lines_found (with_aliases s (s.aliases ++ row n m ∷ [])) (n + 1) ms ws (none_next n s.aliases m new) (omega arith) p.1 (at + length (bytes_of (alias_line_at n m).pieces)) in (
+    let more = lines_found (with_aliases s (s.aliases ++ row n m ∷ [])) (n + 1) ms ws (none_next n s.aliases m new) p.1 (at + length (bytes_of (alias_line_at n m).pieces)) in (
       more.0,
-      ap (behind_line later) (line_found s n m (new n (omega arith) (omega arith)) p.0 at) ∙ none_before (items_of next later) ∙ more.1
+      ap (behind_line later) (line_found s n m (new n (omega arith)) p.0 at) ∙ none_before (items_of next later) ∙ more.1
           ∙ ap (λ (entries : List AliasShape). items_of (with_aliases s entries) ((each_of ws).tree more.0)) (append_assoc s.aliases (row n m ∷ []) (rows (n + 1) ms)),
     )
 
@@ -218,11 +220,11 @@ record Found (p : MapShape → Bool) (k : ℕ) (al : List MapShape) : Type 0 whe
   x : MapShape
   found : aliased (rows k al) (alias_text (k + position_or_len p al)) ≡ Some (row (k + position_or_len p al) x)
   passes : p x ≡ true
-  printable : IsPrintableMap x
+  printable : IsMap x
 
-found_row : (p : MapShape → Bool) (k : ℕ) (al : List MapShape) → list_any p al ≡ true → ArePrintableMaps al → k + length al < 2 ^ 64 → Found p k al
-found_row p k [] h a few = absurd (cc h)
-found_row p k (x ∷ al) h a few = by (p x) refl (λ (g : list_any p al ≡ true). found_row p (k + 1) al g a.1 (omega arith)) h
+found_row : (p : MapShape → Bool) (k : ℕ) (al : List MapShape) → list_any p al ≡ true → ArePrintableMaps al → Found p k al
+found_row p k [] h a = absurd (cc h)
+found_row p k (x ∷ al) h a = by (p x) refl (λ (g : list_any p al ≡ true). found_row p (k + 1) al g a.1) h
   where
     by : (b : Bool) → p x ≡ b → (list_any p al ≡ true → Found p (k + 1) al) → b || list_any p al ≡ true → Found p k (x ∷ al)
     by true e f g =
@@ -230,17 +232,16 @@ found_row p k (x ∷ al) h a few = by (p x) refl (λ (g : list_any p al ≡ true
         record { x = x; found = rw (e, z, (bytes_eq-Decides (alias_text k) (alias_text k)).1 refl) refl; passes = e; printable = a.0 }
     by false e f g =
         let r = f g in
-        let b = first_below p al g in
         let z : k + (1 + position_or_len p al) ≡ k + 1 + position_or_len p al = omega arith in
-        record { x = r.x; found = rw (e, z, other_name k (k + 1 + position_or_len p al) (omega arith) (omega (arith, b, few))) r.found; passes = r.passes; printable = r.printable }
+        record { x = r.x; found = rw (e, z, other_name k (k + 1 + position_or_len p al) (omega arith)) r.found; passes = r.passes; printable = r.printable }
 
 -- the alias that stands for a map
 abbrev pub MapRead : List AliasShape → List MapShape → MapShape → Type 0
 MapRead alias al m = (n : ℕ) × (aliased alias (text_of_alias al m) ≡ Some (row n m))
 
-pub alias_found : (al : List MapShape) (m : MapShape) → HasAlias al m → ArePrintableMaps al → IsPrintableMap m → length al < 2 ^ 64 → MapRead (rows 0 al) al m
-alias_found al m h a p few =
-    let r = found_row (is_text_of m) 0 al h a (omega arith) in
+pub alias_found : (al : List MapShape) (m : MapShape) → HasAlias al m → ArePrintableMaps al → IsMap m → MapRead (rows 0 al) al m
+alias_found al m h a p =
+    let r = found_row (is_text_of m) 0 al h a in
     let z : alias_number al m ≡ 0 + position_or_len (is_text_of m) al = first_is (is_text_of m) al h ∙ zero_first (position_or_len (is_text_of m) al) in (
       0 + position_or_len (is_text_of m) al,
       ap (λ (n : ℕ). aliased (rows 0 al) (alias_text n)) z ∙ r.found ∙ ap (λ (x : MapShape). Some (row (0 + position_or_len (is_text_of m) al) x)) (sym (one_map m r.x p r.printable ((bytes_eq-Decides (text_of_map m) (text_of_map r.x)).0 r.passes))),
@@ -250,5 +251,5 @@ alias_found al m h a p few =
     zero_first n = omega arith
 
 -- a use of a map stands for that map
-pub use_found : (al : List MapShape) (m : MapShape) → HasAlias al m → ArePrintableMaps al → IsPrintableMap m → length al < 2 ^ 64 → (at : ℕ) → map_of (rows 0 al) ((use_at al m).tree at) ≡ Ok m
-use_found al m h a p few at = ap (alias_map at) (alias_found al m h a p few).1
+pub use_found : (al : List MapShape) (m : MapShape) → HasAlias al m → ArePrintableMaps al → IsMap m → (at : ℕ) → map_of (rows 0 al) ((use_at al m).tree at) ≡ Ok m
+use_found al m h a p at = ap (alias_map at) (alias_found al m h a p).1

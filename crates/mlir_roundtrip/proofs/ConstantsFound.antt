@@ -20,11 +20,11 @@ use Rattle.mlir_resolve.specs.declared.dense.Mark.{Mark}
 use Rattle.mlir_resolve.specs.declared.dense.Mark.TheVariants as marks
 use Rattle.mlir_resolve.specs.declared.dense.Wanted.TheVariants as wanted
 use Rattle.mlir_lex.specs.Chain.{and_then}
-use Rattle.mlir_resolve.specs.Types.{type_at, elements, shape_type}
+use Rattle.mlir_scope.specs.Types.{type_at, elements, shape_type}
 use Rattle.mlir_resolve.specs.Constants.{nested_from, elements_from, shape_marks, behind_element, behind_nested, cells_by, shape_width, width_found, elements_width, of_integer, dense_of}
 use Rattle.mlir_resolve.specs.Operations.{kind_of}
-use Rattle.mlir_resolve.specs.Maps.{AliasShape}
-use Rattle.mlir_resolve.specs.Names.{Entry}
+use Rattle.mlir_scope.specs.Maps.{AliasShape}
+use Rattle.mlir_scope.specs.Names.{Entry}
 use Rattle.mlir_print.specs.Types.{ty_text, elem_text}
 use Rattle.mlir_print.specs.Literals.{literal_if}
 use Rattle.mlir_print.specs.Constants.{Word, element_words, nested_words, is_splat, dense_if, dense_at}

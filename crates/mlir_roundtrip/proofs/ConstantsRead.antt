@@ -34,11 +34,11 @@ use Rattle.mlir_lex.specs.Chain.{demand, each}
 use Rattle.mlir_resolve.specs.declared.dense.Mark.{Mark}
 use Rattle.mlir_resolve.specs.declared.dense.Mark.TheVariants as marks
 use Rattle.mlir_resolve.specs.declared.dense.Wanted.TheVariants as wanted
-use Rattle.mlir_resolve.specs.Types.{type_at, extent_at, elements, shape_type}
-use Rattle.mlir_resolve.specs.Literals.{digits_value, most_of, signed_by, place_of_number, is_in_range, value_in, elem_from, elem_at, truth_of, literal_of}
+use Rattle.mlir_scope.specs.Types.{type_at, extent_at, elements, shape_type}
+use Rattle.mlir_scope.specs.Literals.{digits_value, most_of, signed_by, place_of_number, is_in_range, value_in, elem_from, elem_at, truth_of, literal_of}
 use Rattle.mlir_resolve.specs.Constants.{mark_of, Stand, behind, by_stand, nested_from, bit_of, truth_in, number_in, onto_elements, element_by, elements_from, is_shape_mark, onto_mark, shape_marks, behind_element, behind_open, behind_close, and_behind, times, behind_nested, is_end, cells_by, cells_in, shape_width, width_found, elements_width, constant, of_integer, scalar_of, dense_of, constant_of}
-use Rattle.mlir_resolve.proofs.Keeps.{then_ok}
-use Rattle.mlir_resolve.proofs.Ranges.{element_written, literal_is, literal_value}
+use Rattle.mlir_scope.proofs.Keeps.{then_ok}
+use Rattle.mlir_scope.proofs.Ranges.{element_written, literal_is, literal_value}
 use Rattle.mlir_print.specs.Names.{Row}
 use Rattle.mlir_roundtrip.specs.Printable.{IsIntegerType, IsPrintableKind}
 use Rattle.mlir_roundtrip.proofs.ReadTypes.{ok_same, demanded, type_row}

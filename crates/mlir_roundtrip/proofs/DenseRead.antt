@@ -23,8 +23,8 @@ use Rattle.mlir_resolve.specs.declared.dense.Mark.{Mark}
 use Rattle.mlir_resolve.specs.declared.dense.Mark.TheVariants as marks
 use Rattle.mlir_resolve.specs.declared.dense.Wanted.{Wanted}
 use Rattle.mlir_resolve.specs.declared.dense.Wanted.TheVariants as wanted
-use Rattle.mlir_resolve.specs.Types.{counted, elements}
-use Rattle.mlir_resolve.specs.Literals.{digits_value, is_negative, most_of}
+use Rattle.mlir_scope.specs.Types.{counted, elements}
+use Rattle.mlir_scope.specs.Literals.{digits_value, is_negative, most_of}
 use Rattle.mlir_resolve.specs.Constants.{mark_of, Stand, with_item, behind, by_stand, nested_from, number_in, elements_from, shape_marks, behind_element, behind_close, and_behind, times, behind_nested}
 use Rattle.mlir_print.specs.Literals.{number_at}
 use Rattle.text_format.specs.Writers.{each_of}

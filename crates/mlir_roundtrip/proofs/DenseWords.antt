@@ -15,7 +15,7 @@ use Rattle.text_format.specs.Classes.{holds}
 use Rattle.text_format.specs.Lexemes.{lexeme_kind, lexeme_text}
 use Rattle.text_format.specs.Pieces.{Piece, Gap, Leaf}
 use Rattle.text_format.proofs.Spacing.{IsApart, Opens, decimal_name, lexeme_name, lexeme_closed, none_apart, none_opens, gap_apart, space, fixed_closed, fixed_word, leaf_name, leaf_closed, append_apart, space_opens, fixed_opens, leaf_opens}
-use Rattle.mlir_resolve.specs.Types.{counted, elements}
+use Rattle.mlir_scope.specs.Types.{counted, elements}
 use Rattle.mlir_print.specs.Literals.{truth_text}
 use Rattle.text_format.specs.Writers.{each_of}
 use Rattle.mlir_print.specs.Constants.{Word, close_word, comma_word, number_words, element_if, element_words, first_words, items_words, nested_words, is_splat, dense_if, dense_words, word_at, dense_at}

@@ -6,8 +6,8 @@ use Rattle.std.proofs.Common.{inl, inr, ◌⊎◌}
 use Rattle.std.proofs.lemmas.Bool.{cond-true}
 use Rattle.std.proofs.lemmas.Slice.Eq.{bytes_eq-Decides}
 use Rattle.std.proofs.lemmas.Fmt.{decimal_injective, decimal_by_steps}
-use Rattle.mlir_resolve.specs.declared.names.Meaning.{Meaning}
-use Rattle.mlir_resolve.specs.Names.{Entry, entry, find}
+use Rattle.mlir_scope.specs.declared.names.Meaning.{Meaning}
+use Rattle.mlir_scope.specs.Names.{Entry, entry, find}
 use Rattle.mlir_print.specs.declared.names.Given.TheVariants.{Argument, Result}
 use Rattle.mlir_print.specs.Names.{given_text}
 

@@ -1,5 +1,5 @@
 -- The canonical tree of a file stands for the file with the numbers of its text.
-use Rattle.std.proofs.Common.{◌≡◌, ◌<◌, ◌≤◌, ◌^◌, inl, ℕ, ◌+◌, suc, Bool, true, false, List, [], ◌∷◌, ◌++◌, map, length, None, Result as Answer, Ok, Err, refl, sym, ap, ◌∙◌, length-append, arith, nat_eq, nat_le, nat_lt, Option, Some}
+use Rattle.std.proofs.Common.{◌≡◌, ◌<◌, ◌≤◌, inl, ℕ, ◌+◌, suc, Bool, true, false, List, [], ◌∷◌, ◌++◌, map, length, None, Result as Answer, Ok, Err, refl, sym, ap, ◌∙◌, length-append, arith, nat_eq, nat_le, nat_lt, Option, Some}
 use Rattle.std.specs.List.{AllByRecursion, list_all}
 use Rattle.std.proofs.lemmas.Bool.{and_parts, and_from, lt-ltb, le-leb, lt-leb, ne_eqb, ltb-false}
 use Rattle.std.proofs.lemmas.List.{append-nil}
@@ -21,15 +21,15 @@ use Rattle.mlir_syntax.specs.declared.tree.files.ReturnType.{ReturnType}
 use Rattle.mlir_syntax.specs.declared.tree.files.Returned.TheVariants.{Values}
 use Rattle.mlir_syntax.specs.declared.tree.files.Function.{Function}
 use Rattle.mlir_syntax.specs.declared.tree.files.Item.TheVariants as items
-use Rattle.mlir_resolve.specs.declared.names.Meaning.TheVariants.{Held}
-use Rattle.mlir_resolve.specs.declared.names.Scope.{Scope}
+use Rattle.mlir_scope.specs.declared.names.Meaning.TheVariants.{Held}
+use Rattle.mlir_scope.specs.declared.names.Scope.{Scope}
 use Rattle.mlir_read.specs.declared.files.Stage.TheVariants.{Closed}
 use Rattle.mlir_read.specs.declared.files.FileScope.{FileScope}
 use Rattle.mlir_lex.specs.declared.fault.Fault.{Fault}
-use Rattle.mlir_resolve.specs.Maps.{AliasShape}
-use Rattle.mlir_resolve.specs.Names.{Entry, entry, place}
+use Rattle.mlir_scope.specs.Maps.{AliasShape}
+use Rattle.mlir_scope.specs.Names.{Entry, entry, place}
 use Rattle.mlir_lex.specs.Chain.{and_then, each}
-use Rattle.mlir_resolve.specs.Scope.{params_of, value_id}
+use Rattle.mlir_scope.specs.Scope.{params_of, value_id}
 use Rattle.mlir_resolve.specs.Operations.{statements_of}
 use Rattle.mlir_read.specs.Resolve.{is_ascii, name_of, unknown, results_from, results_of, more_return_types, returned_of, return_of, opened, body_of, function_of, functions_of, items_of, start, resolve, holding, with_script, may_hold, rest_of, behind_functions, joined}
 use Rattle.mlir_print.specs.declared.names.Given.TheVariants.{Argument}
@@ -283,9 +283,9 @@ functions_found s al (f ∷ fs) (x ∷ xs) ms h new le l =
 
 -- ---- texts
 
-funcs_read : (al : List MapShape) (fs : List FuncShape) → FuncsHaveAliases al fs → ArePrintableMaps al → FuncsPrintable fs → length al < 2 ^ 64 → FuncsRead (rows 0 al) al fs
-funcs_read al [] h a p few = tt
-funcs_read al (f ∷ fs) h a p few = (all_read al f.body h.0 a p.0 few, funcs_read al fs h.1 a p.1 few)
+funcs_read : (al : List MapShape) (fs : List FuncShape) → FuncsHaveAliases al fs → ArePrintableMaps al → FuncsPrintable fs → FuncsRead (rows 0 al) al fs
+funcs_read al [] h a p = tt
+funcs_read al (f ∷ fs) h a p = (all_read al f.body h.0 a p.0, funcs_read al fs h.1 a p.1)
 
 abbrev file_of : List FuncShape → Option Script → File
 file_of fs script = record { «module» = record { funcs = fs }; script = script }
@@ -328,15 +328,15 @@ module_found al fs script ms h new le p at =
 abbrev whole_run : Answer (FileScope × List FuncShape) Fault → Answer File Fault
 whole_run r = and_then r (λ q. Ok (file_of q.1 q.0.script))
 
-with_found : (al : List MapShape) (fs : List FuncShape) (script : Option Script) → FuncsRead (rows 0 al) al fs → ArePrintableMaps al → length al < 2 ^ 64 → ArePrintable fs → AreNew [] fs → operations_in fs ≤ 65536 → IsPrintableScript script
+with_found : (al : List MapShape) (fs : List FuncShape) (script : Option Script) → FuncsRead (rows 0 al) al fs → ArePrintableMaps al → ArePrintable fs → AreNew [] fs → operations_in fs ≤ 65536 → IsPrintableScript script
     → (at : ℕ) → resolve ((text_with al fs script).tree at) ≡ Ok (file_of (funcs_renumbered 0 0 fs) (script_renumbered script))
-with_found al fs script ms q few h new le p at =
-    let r = lines_found start 0 al (made items.Module (module_at al fs script) ∷ []) (λ j a b. refl) (omega arith) q at in
+with_found al fs script ms q h new le p at =
+    let r = lines_found start 0 al (made items.Module (module_at al fs script) ∷ []) (λ j a. refl) q at in
     let m = module_found al fs script ms h new le p r.0 in
     ap whole_run (r.1 ∙ m.1) ∙ ap (λ (x : Option Script). Ok (file_of (funcs_renumbered 0 0 fs) x)) m.2
 
 -- the tree of the canonical text stands for the file with the numbers of the text
 pub text_found : (f : File) → IsPrintable f → (at : ℕ) → resolve ((text_at f).tree at) ≡ Ok (renumbered f)
 text_found f h at =
-    let a = aliases_are f.module.funcs h.funcs h.few_ops in
-    with_found (with_funcs [] f.module.funcs) f.module.funcs f.script (funcs_read (with_funcs [] f.module.funcs) f.module.funcs a.have a.printable a.uses a.few) a.printable a.few h.funcs h.names h.few_ops h.script at
+    let a = aliases_are f.module.funcs h.funcs in
+    with_found (with_funcs [] f.module.funcs) f.module.funcs f.script (funcs_read (with_funcs [] f.module.funcs) f.module.funcs a.have a.printable a.uses) a.printable h.funcs h.names h.few_ops h.script at

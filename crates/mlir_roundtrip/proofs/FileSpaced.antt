@@ -152,14 +152,14 @@ module_apart al fs script named h p =
 whole_module : (al : List MapShape) (fs : List FuncShape) (script : Option Script) → FuncsNamed al fs → ArePrintable fs → IsPrintableScript script → IsApart ((module_at al fs script).pieces ++ [])
 whole_module al fs script named h p = append_apart (module_at al fs script).pieces [] (module_apart al fs script named h p) none_opens none_apart
 
-with_apart : (al : List MapShape) (fs : List FuncShape) (script : Option Script) → length al < 2 ^ 64 → ArePrintableMaps al → ArePrintable fs → IsPrintableScript script → IsApart (text_with al fs script).pieces
-with_apart al fs script few p h q = lines_apart 0 al (made items.Module (module_at al fs script) ∷ []) (omega arith) p (whole_module al fs script (funcs_named al fs few) h q)
+with_apart : (al : List MapShape) (fs : List FuncShape) (script : Option Script) → ArePrintableMaps al → ArePrintable fs → IsPrintableScript script → IsApart (text_with al fs script).pieces
+with_apart al fs script p h q = lines_apart 0 al (made items.Module (module_at al fs script) ∷ []) p (whole_module al fs script (funcs_named al fs) h q)
 
 -- the pieces of the canonical text are well spaced
 pub text_spaced : (f : File) → IsPrintable f → IsSpaced (text_at f).pieces []
 text_spaced f h =
-    let a = aliases_are f.module.funcs h.funcs h.few_ops in
-    whole (text_at f).pieces (with_apart (with_funcs [] f.module.funcs) f.module.funcs f.script a.few a.printable h.funcs h.script)
+    let a = aliases_are f.module.funcs h.funcs in
+    whole (text_at f).pieces (with_apart (with_funcs [] f.module.funcs) f.module.funcs f.script a.printable h.funcs h.script)
 
 -- its tokens are those that were written
 pub text_tokens : (f : File) → IsPrintable f → shapes_of (text_of f) ≡ Ok (shapes_at 0 (text_at f).pieces)

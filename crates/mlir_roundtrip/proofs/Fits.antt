@@ -8,7 +8,7 @@ use Rattle.payload_ops.specs.declared.kinds.ElemTy.TheVariants.{Int, Index}
 use Rattle.payload_ops.specs.declared.step.Arg.{Arg}
 use Rattle.payload_ops.specs.declared.step.PayloadStep.{PayloadStep}
 use Rattle.payload_ops.specs.Payload.{is_elem, arg_type, has_type, have_one_type, is_narrower, is_widening, is_narrowing, is_cast}
-use Rattle.mlir_resolve.proofs.Fitting.{arg_more}
+use Rattle.mlir_payload.proofs.Fitting.{arg_more}
 use Rattle.mlir_print.specs.Types.{elem_text}
 use Rattle.mlir_print.specs.Payloads.{elem_or}
 

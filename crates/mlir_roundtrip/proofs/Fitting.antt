@@ -15,7 +15,7 @@ use Rattle.mlir_ir.specs.declared.tree.OpKind.TheVariants as kinds
 use Rattle.text_format.specs.declared.class.Class.TheVariants as classes
 use Rattle.text_format.specs.Classes.{holds}
 use Rattle.text_format.specs.Types.{is_some, width_of, element_of, extents_of}
-use Rattle.mlir_resolve.specs.Types.{elem_of}
+use Rattle.mlir_scope.specs.Types.{elem_of}
 use Rattle.mlir_print.specs.declared.names.Given.TheVariants.{Result}
 use Rattle.mlir_print.specs.Types.{ty_text, type_kind}
 use Rattle.mlir_print.specs.Names.{Names, Row, type_in, kind_in, type_or, kind_or, row_of}

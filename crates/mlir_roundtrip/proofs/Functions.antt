@@ -1,5 +1,5 @@
 -- The files that are read are printable, and have the numbers of their canonical text.
-use Rattle.std.proofs.Common.{◌≡◌, ◌<◌, ◌≤◌, subst, ℕ, ◌+◌, suc, Bool, true, not, is_none, List, [], ◌∷◌, ◌++◌, length, map, Option, Some, None, Ok, refl, sym, ap, ◌∙◌, length-append, arith, nat_lt, append_assoc, ◌^◌}
+use Rattle.std.proofs.Common.{◌≡◌, ◌<◌, ◌≤◌, subst, ℕ, ◌+◌, suc, Bool, true, not, is_none, List, [], ◌∷◌, ◌++◌, length, map, Option, Some, None, Ok, refl, sym, ap, ◌∙◌, length-append, arith, nat_lt, append_assoc}
 use Rattle.std.specs.Prelude.{is_none}
 use Rattle.std.specs.List.{AllByRecursion, list_all}
 use Rattle.std.proofs.lemmas.Bool.{ltb-true}
@@ -11,9 +11,7 @@ use Rattle.mlir_ir.specs.declared.tree.Which.TheVariants as limits
 use Rattle.mlir_ir.specs.Shape.{FuncShape}
 use Rattle.text_format.specs.Token.{TokenShape}
 use Rattle.text_format.specs.Types.{is_word}
-use Rattle.text_format.specs.declared.class.Class.TheVariants.{Exactly}
-use Rattle.text_format.specs.declared.lexeme.Lexeme.TheVariants.{OpenBrace, CloseBrace}
-use Rattle.text_format.specs.Formats.{Fixed, Leaf, spell_many, Item as Spelled, spell_some}
+use Rattle.text_format.specs.Formats.{spell_many}
 use Rattle.mlir_syntax.specs.Operations as operation_grammar
 use Rattle.mlir_syntax.specs.Files as file_grammar
 use Rattle.mlir_syntax.specs.declared.tree.files.Param.{Param}
@@ -29,26 +27,24 @@ use Rattle.mlir_syntax.specs.declared.tree.files.Item.{Item}
 use Rattle.mlir_syntax.specs.declared.tree.files.Item.TheVariants as items
 use Rattle.mlir_syntax.specs.declared.tree.files.Text.{Text}
 use Rattle.mlir_lex.specs.declared.fault.Fault.TheVariants.{Limit, Syntax, Twice}
-use Rattle.mlir_resolve.specs.declared.names.Meaning.{Meaning}
-use Rattle.mlir_resolve.specs.declared.names.Meaning.TheVariants.{Held}
-use Rattle.mlir_resolve.specs.declared.names.Scope.{Scope}
+use Rattle.mlir_scope.specs.declared.names.Meaning.{Meaning}
+use Rattle.mlir_scope.specs.declared.names.Meaning.TheVariants.{Held}
+use Rattle.mlir_scope.specs.declared.names.Scope.{Scope}
 use Rattle.mlir_read.specs.declared.files.Stage.TheVariants.{Functions, Closed, Start, Scripted}
 use Rattle.mlir_read.specs.declared.files.FileScope.{FileScope}
-use Rattle.mlir_resolve.specs.Maps.{AliasShape, tokens_of, has_symbols, written_map, aliased as alias_named, alias_in}
-use Rattle.mlir_resolve.specs.Names.{Entry, entry, place}
+use Rattle.mlir_scope.specs.Maps.{AliasShape, AreMaps, tokens_of, has_symbols, written_map, aliased as alias_named, alias_in}
+use Rattle.mlir_scope.specs.Names.{Entry, entry, place}
 use Rattle.mlir_lex.specs.Chain.{and_then, demand, each, thread}
-use Rattle.mlir_resolve.specs.Types.{type_at}
-use Rattle.mlir_resolve.specs.Scope.{held, IsHeld, fresh, value_id, typed_as, with_value, param_of, params_of}
+use Rattle.mlir_scope.specs.Types.{type_at}
+use Rattle.mlir_scope.specs.Scope.{held, IsHeld, fresh, value_id, typed_as, with_value, param_of, params_of}
 use Rattle.mlir_resolve.specs.Constants.{result_meaning}
 use Rattle.mlir_resolve.specs.Operations.{kind_of, name_in, operation_of, numbered, statement_of, statements_of, room as op_room}
 use Rattle.mlir_read.specs.Resolve.{is_ascii, symbol_of, name_of, unknown, result_at, results_from, types_in, results_of, word_in, value_ids, more_return_types, returned_of, return_of, opened, closed, body_of, function_of, functions_of, alias_of, is_closed, at_stage, item_of, items_of, start, resolve, function_stage, module_stage, holding, with_script, may_hold, rest_of, behind_functions, outer_of, has_attributes, no_function, alone_of, later_of, module_of}
-use Rattle.mlir_resolve.proofs.Keeps.{then_ok}
+use Rattle.mlir_scope.proofs.Keeps.{then_ok}
 use Rattle.affine_maps.specs.Shape.{MapShape}
 use Rattle.mlir_syntax.specs.declared.tree.files.AliasLine.{AliasLine}
-use Rattle.mlir_roundtrip.specs.Maps.{IsPrintableMap}
-use Rattle.mlir_roundtrip.proofs.MapsRead.{written_printable}
-use Rattle.mlir_roundtrip.proofs.MapUses.{AreUsable, usable_last}
-use Rattle.mlir_roundtrip.proofs.Short.{IsShortMap, IsShortStatement, IsShortFunction, IsShortRest, IsShortItem}
+use Rattle.affine_maps.specs.Map.{IsMap}
+use Rattle.mlir_scope.proofs.MapsFit.{read_is_map, maps_append}
 use Rattle.mlir_resolve.proofs.Results.{kind_fits}
 use Rattle.mlir_print.specs.declared.names.Given.{Given}
 use Rattle.mlir_print.specs.declared.names.Given.TheVariants.{Argument, Result}
@@ -64,14 +60,11 @@ use Rattle.mlir_roundtrip.proofs.Symbols.{AreLeaves, leaves_left, leaves_right, 
 use Rattle.script_read.specs.declared.script.Script.{Script}
 use Rattle.mlir_file.specs.declared.file.File.{File}
 use Rattle.std.proofs.lemmas.List.{append-nil}
-use Rattle.mlir_syntax.specs.declared.tree.files.ScriptModule.{ScriptModule}
 use Rattle.mlir_syntax.specs.declared.tree.files.ModuleRest.{ModuleRest}
 use Rattle.mlir_syntax.specs.declared.tree.files.ModuleRest.TheVariants as rests
 use Rattle.mlir_syntax.specs.declared.tree.files.Enclosed.{Enclosed}
 use Rattle.script_syntax.specs.declared.tree.lines.Sequence.{Sequence}
-use Rattle.script_syntax.specs.Lines.{sequence}
 use Rattle.script_read.specs.Resolve as scripts
-use Rattle.script_roundtrip.proofs.Shown.{AreShown, long_shown}
 use Rattle.script_roundtrip.proofs.Readable.{ScriptRead, script_taken}
 use Rattle.mlir_roundtrip.specs.Numbered.{script_renumbered, renumbered}
 use Rattle.mlir_read.specs.declared.files.Stage.{Stage}
@@ -166,12 +159,12 @@ module _ (base : ℕ) where
   unfolding operation_grammar.statement
   operation_leaves o w = w.1
 
-  op_is : (alias : List AliasShape) (n : Names) (s : Scope) (o : Statement) (r : Scope × Op) → At n s → AreUsable alias → IsShortStatement o → StatementIs o → statement_of alias s o ≡ Ok r → OpRead n s r
-  op_is alias n s o r a usable short w h =
+  op_is : (alias : List AliasShape) (n : Names) (s : Scope) (o : Statement) (r : Scope × Op) → At n s → AreMaps alias → StatementIs o → statement_of alias s o ≡ Ok r → OpRead n s r
+  op_is alias n s o r a usable w h =
       let x = then_ok (fresh s.env o.result) _ r h in
       let y = then_ok (operation_of alias s o.operation) _ r x.2 in
       let room = then_ok (op_room s.ops (name_in o.operation)) (λ _. kind_of alias s.env o.operation) y.0 y.1 in
-      let k = kind_is base n.rows s.env a.reads alias o.operation y.0 usable short (operation_leaves o w) room.2 in
+      let k = kind_is base n.rows s.env a.reads alias o.operation y.0 usable (operation_leaves o w) room.2 in
       let z : length n.rows + base ≡ s.values = omega (arith, a.values) in
       subst (λ (q : Scope × Op). OpRead n s q) (ok_same (numbered s o.result.text y.0) r y.2)
       (record {
@@ -293,24 +286,24 @@ module _ (base : ℕ) where
         last = omega arith;
       }
 
-  body_is : (alias : List AliasShape) (n : Names) (s : Scope) (name : ReturnName) (t : Returned) (ss : List Statement) (r : Scope × List Op) (last : Op) → At n s → AreUsable alias → AllByRecursion IsShortStatement ss → AllByRecursion StatementIs ss → AreLeaves (file_grammar.returned.spell t) → statements_of alias s ss ≡ Ok r → return_of r.0 name t ≡ Ok last → BodyRead n s (r.0, r.1 ++ last ∷ [])
-  body_is alias n s name t [] r last a usable short ws w h e =
+  body_is : (alias : List AliasShape) (n : Names) (s : Scope) (name : ReturnName) (t : Returned) (ss : List Statement) (r : Scope × List Op) (last : Op) → At n s → AreMaps alias → AllByRecursion StatementIs ss → AreLeaves (file_grammar.returned.spell t) → statements_of alias s ss ≡ Ok r → return_of r.0 name t ≡ Ok last → BodyRead n s (r.0, r.1 ++ last ∷ [])
+  body_is alias n s name t [] r last a usable ws w h e =
       let same = ok_same (s, []) r h in
       let z = return_is n s name t last a w (ap (λ (q : Scope × List Op). return_of q.0 name t) same ∙ e) in
       subst (λ (q : Scope × List Op). BodyRead n s (q.0, q.1 ++ last ∷ [])) same (only_op n s last a z)
-  body_is alias n s name t (o ∷ ss) r last a usable short ws w h e =
+  body_is alias n s name t (o ∷ ss) r last a usable ws w h e =
       let x = then_ok (statement_of alias s o) (λ r. and_then (thread (statement_of alias) r.0 ss) (λ q. Ok (q.0, r.1 ∷ q.1))) r h in
       let y = then_ok (thread (statement_of alias) x.0.0 ss) (λ q. Ok (q.0, x.0.1 ∷ q.1)) r x.2 in
       let same = ok_same (y.0.0, x.0.1 ∷ y.0.1) r y.2 in
-      let one = op_is alias n s o x.0 a usable short.0 ws.0 x.1 in
-      let more = body_is alias (next n x.0.1) x.0.0 name t ss y.0 last one.at usable short.1 ws.1 w y.1 (ap (λ (q : Scope × List Op). return_of q.0 name t) same ∙ e) in
+      let one = op_is alias n s o x.0 a usable ws.0 x.1 in
+      let more = body_is alias (next n x.0.1) x.0.0 name t ss y.0 last one.at usable ws.1 w y.1 (ap (λ (q : Scope × List Op). return_of q.0 name t) same ∙ e) in
       subst (λ (q : Scope × List Op). BodyRead n s (q.0, q.1 ++ last ∷ [])) same (first_op n s x.0.0 y.0.0 x.0.1 (y.0.1 ++ last ∷ []) one more)
 
-  whole_body : (alias : List AliasShape) (n : Names) (s : Scope) (f : Function) (r : Scope × List Op) → At n s → AreUsable alias → IsShortFunction f → FunctionIs f → body_of alias s f ≡ Ok r → BodyRead n s r
-  whole_body alias n s f r a usable short w h =
+  whole_body : (alias : List AliasShape) (n : Names) (s : Scope) (f : Function) (r : Scope × List Op) → At n s → AreMaps alias → FunctionIs f → body_of alias s f ≡ Ok r → BodyRead n s r
+  whole_body alias n s f r a usable w h =
       let b = then_ok (statements_of alias s f.statements) (λ b. and_then (return_of b.0 f.return_name f.returned) (λ last. Ok (b.0, b.1 ++ last ∷ []))) r h in
       let l = then_ok (return_of b.0.0 f.return_name f.returned) (λ last. Ok (b.0.0, b.0.1 ++ last ∷ [])) r b.2 in
-      subst (λ (q : Scope × List Op). BodyRead n s q) (ok_same (b.0.0, b.0.1 ++ l.0 ∷ []) r l.2) (body_is alias n s f.return_name f.returned f.statements b.0 l.0 a usable short w.statements w.returned b.1 l.1)
+      subst (λ (q : Scope × List Op). BodyRead n s q) (ok_same (b.0.0, b.0.1 ++ l.0 ∷ []) r l.2) (body_is alias n s f.return_name f.returned f.statements b.0 l.0 a usable w.statements w.returned b.1 l.1)
 
 -- ---- results
 
@@ -351,8 +344,8 @@ is_unknown names at name u h = by (place 0 names name) (demanded (is_none (place
     by None e = refl
     by (Some n) e = absurd (cc e)
 
-function_is : (s : FileScope) (f : Function) (m : FileScope × FuncShape) → AreUsable s.aliases → IsShortFunction f → FunctionIs f → function_of s f ≡ Ok m → FuncRead s m
-function_is s f m usable short w h =
+function_is : (s : FileScope) (f : Function) (m : FileScope × FuncShape) → AreMaps s.aliases → FunctionIs f → function_of s f ≡ Ok m → FuncRead s m
+function_is s f m usable w h =
     let x = then_ok (name_of f.name) _ m h in
     let x1 = then_ok (demand (list_all is_ascii (symbol_of f.name)) (Syntax f.name.start)) _ x.0 x.1 in
     let name = ok_same (symbol_of f.name) x.0 x1.2 in
@@ -362,7 +355,7 @@ function_is s f m usable short w h =
     let b = then_ok (body_of s.aliases p.0.0 f) _ m t.2 in
     let ps = params_are s.values nothing (opened s) f.params p.0 (begun s) (omega arith) p.1 in
     let rs = results_are 0 (types_in f.results) t.0 (omega arith) t.1 in
-    let body = whole_body s.values s.aliases (after_params nothing p.0.1) p.0.0 f b.0 ps.at usable short w b.1 in
+    let body = whole_body s.values s.aliases (after_params nothing p.0.1) p.0.0 f b.0 ps.at usable w b.1 in
     let at_start = ps.ops in
     let few = ps.few in
     let few_ops = body.few in
@@ -434,11 +427,11 @@ HasRead (Some x) = ScriptRead x
 -- the scope behind has few operations, and what comes from it comes behind
 record Leads (s : FileScope) (r : FileScope × List FuncShape) : Type 0 where
   few : r.0.ops ≤ 65536
-  usable : AreUsable r.0.aliases
+  usable : AreMaps r.0.aliases
   onto : (fs : List FuncShape) → FuncsRead r.0 fs → FuncsRead s (r.1 ++ fs)
   script : HasRead s.script → HasRead r.0.script
 
-no_func : (s : FileScope) → s.ops ≤ 65536 → AreUsable s.aliases → Leads s (s, [])
+no_func : (s : FileScope) → s.ops ≤ 65536 → AreMaps s.aliases → Leads s (s, [])
 no_func s le usable = record { few = le; usable = usable; onto = λ fs r. r; script = λ h. h }
 
 more_funcs : (s : FileScope) (r : FileScope × FuncShape) (q : FileScope × List FuncShape) → FuncRead s r → Leads r.0 q → Leads s (q.0, r.1 ∷ q.1)
@@ -452,76 +445,66 @@ both_lead s r q l m = record {
   script = λ h. m.script (l.script h);
 }
 
-functions_are : (s : FileScope) (xs : List Function) (r : FileScope × List FuncShape) → s.ops ≤ 65536 → AreUsable s.aliases → AllByRecursion IsShortFunction xs → AllByRecursion FunctionIs xs → functions_of s xs ≡ Ok r → Leads s r
-functions_are s [] r le usable short w h = subst (λ (q : FileScope × List FuncShape). Leads s q) (ok_same (s, []) r h) (no_func s le usable)
-functions_are s (x ∷ xs) r le usable short w h =
+functions_are : (s : FileScope) (xs : List Function) (r : FileScope × List FuncShape) → s.ops ≤ 65536 → AreMaps s.aliases → AllByRecursion FunctionIs xs → functions_of s xs ≡ Ok r → Leads s r
+functions_are s [] r le usable w h = subst (λ (q : FileScope × List FuncShape). Leads s q) (ok_same (s, []) r h) (no_func s le usable)
+functions_are s (x ∷ xs) r le usable w h =
     let a = then_ok (function_of s x) (λ r. and_then (thread function_of r.0 xs) (λ q. Ok (q.0, r.1 ∷ q.1))) r h in
     let b = then_ok (thread function_of a.0.0 xs) (λ q. Ok (q.0, a.0.1 ∷ q.1)) r a.2 in
-    let f = function_is s x a.0 usable short.0 w.0 a.1 in
+    let f = function_is s x a.0 usable w.0 a.1 in
     let ops = f.ops in
     let few = f.few in
-    let more = functions_are a.0.0 xs b.0 (omega (arith, ops, few)) (subst (λ (q : List AliasShape). AreUsable q) (sym f.aliases) usable) short.1 w.1 b.1 in
+    let more = functions_are a.0.0 xs b.0 (omega (arith, ops, few)) (subst (λ (q : List AliasShape). AreMaps q) (sym f.aliases) usable) w.1 b.1 in
     subst (λ (q : FileScope × List FuncShape). Leads s q) (ok_same (b.0.0, a.0.1 ∷ b.0.1) r b.2) (more_funcs s a.0 b.0 f more)
 
 -- from a scope that differs in its stage or its aliases alone
 leads_same : (s t : FileScope) (r : FileScope × List FuncShape) → s.functions ≡ t.functions → s.values ≡ t.values → s.ops ≡ t.ops → s.script ≡ t.script → Leads t r → Leads s r
 leads_same s t r e v k x l = record { few = l.few; usable = l.usable; onto = λ fs h. same_read s t (r.1 ++ fs) e v k (l.onto fs h); script = λ h. l.script (subst HasRead x h) }
 
--- ---- modules, whose scripts have no more results in a step than the text has tokens
+-- ---- modules
 
-abbrev RestShown : ℕ → ModuleRest → Type 0
-RestShown n (rests.End t) = Unit {0}
-RestShown n (rests.Script q e) = AreShown n q.lines
-RestShown n (rests.Nested m e) = AreShown n m.script.lines
-
-abbrev ItemShown : ℕ → Item → Type 0
-ItemShown n (items.Alias a) = Unit {0}
-ItemShown n (items.Function f) = Unit {0}
-ItemShown n (items.Module m) = RestShown n m.rest
-
-script_leads : (n : ℕ) (s : FileScope) (q : Sequence) (t : FileScope) → n < 2 ^ 64 → s.ops ≤ 65536 → AreUsable s.aliases → AreShown n q.lines → with_script s q ≡ Ok t → Leads s (t, [])
-script_leads n s q t small le usable a h =
+script_leads : (s : FileScope) (q : Sequence) (t : FileScope) → s.ops ≤ 65536 → AreMaps s.aliases → with_script s q ≡ Ok t → Leads s (t, [])
+script_leads s q t le usable h =
     let x = then_ok (scripts.resolve q) (λ x. Ok (holding s x)) t h in
-    subst (λ (u : FileScope). Leads s (u, [])) (ok_same (holding s x.0) t x.2) (record { few = le; usable = usable; onto = λ fs k. same_read s (holding s x.0) fs refl refl refl k; script = λ k. script_taken q n x.0 small a x.1 })
+    subst (λ (u : FileScope). Leads s (u, [])) (ok_same (holding s x.0) t x.2) (record { few = le; usable = usable; onto = λ fs k. same_read s (holding s x.0) fs refl refl refl k; script = λ k. script_taken q x.0 x.1 })
 
-ended_leads : (n : ℕ) (s : FileScope) (q : Sequence) (fs : List Function) (r : FileScope × List FuncShape) → n < 2 ^ 64 → s.ops ≤ 65536 → AreUsable s.aliases → AreShown n q.lines → AllByRecursion IsShortFunction fs → AllByRecursion FunctionIs fs
+ended_leads : (s : FileScope) (q : Sequence) (fs : List Function) (r : FileScope × List FuncShape) → s.ops ≤ 65536 → AreMaps s.aliases → AllByRecursion FunctionIs fs
     → and_then (with_script s q) (λ t. functions_of t fs) ≡ Ok r → Leads s r
-ended_leads n s q fs r small le usable a short w h =
+ended_leads s q fs r le usable w h =
     let x = then_ok (with_script s q) (λ t. functions_of t fs) r h in
-    let l = script_leads n s q x.0 small le usable a x.1 in
-    both_lead s (x.0, []) r l (functions_are x.0 fs r l.few l.usable short w x.2)
+    let l = script_leads s q x.0 le usable x.1 in
+    both_lead s (x.0, []) r l (functions_are x.0 fs r l.few l.usable w x.2)
 
-rest_leads : (n : ℕ) (s : FileScope) (m : ModuleRest) (r : FileScope × List FuncShape) → n < 2 ^ 64 → s.ops ≤ 65536 → AreUsable s.aliases → RestShown n m → IsShortRest m → RestIs m → rest_of s m ≡ Ok r → Leads s r
-rest_leads n s (rests.End t) r small le usable a short w h = subst (λ (q : FileScope × List FuncShape). Leads s q) (ok_same (s, []) r h) (no_func s le usable)
-rest_leads n s (rests.Script q e) r small le usable a short w h = ended_leads n s q e.functions r small le usable a short w h
-rest_leads n s (rests.Nested m e) r small le usable a short w h = ended_leads n s m.script e.functions r small le usable a short w h
+rest_leads : (s : FileScope) (m : ModuleRest) (r : FileScope × List FuncShape) → s.ops ≤ 65536 → AreMaps s.aliases → RestIs m → rest_of s m ≡ Ok r → Leads s r
+rest_leads s (rests.End t) r le usable w h = subst (λ (q : FileScope × List FuncShape). Leads s q) (ok_same (s, []) r h) (no_func s le usable)
+rest_leads s (rests.Script q e) r le usable w h = ended_leads s q e.functions r le usable w h
+rest_leads s (rests.Nested m e) r le usable w h = ended_leads s m.script e.functions r le usable w h
 
-outer_leads : (n : ℕ) (s : FileScope) (m : Enclosed) (r : FileScope × List FuncShape) → n < 2 ^ 64 → s.ops ≤ 65536 → AreUsable s.aliases → RestShown n m.rest → IsShortItem (items.Module m) → ItemIs (items.Module m) → outer_of s m ≡ Ok r → Leads s r
-outer_leads n s m r small le usable a short w h =
+outer_leads : (s : FileScope) (m : Enclosed) (r : FileScope × List FuncShape) → s.ops ≤ 65536 → AreMaps s.aliases → ItemIs (items.Module m) → outer_of s m ≡ Ok r → Leads s r
+outer_leads s m r le usable w h =
     let x = then_ok (functions_of s m.functions) (λ q. and_then (behind_functions m q.0) (λ p. Ok (p.0, q.1 ++ p.1))) r h in
     let y = then_ok (behind_functions m x.0.0) (λ p. Ok (p.0, x.0.1 ++ p.1)) r x.2 in
     let z = then_ok (may_hold m.attributes m.rest) (λ _. rest_of x.0.0 m.rest) y.0 y.1 in
-    let l = functions_are s m.functions x.0 le usable short.0 w.0 x.1 in
-    subst (λ (q : FileScope × List FuncShape). Leads s q) (ok_same (y.0.0, x.0.1 ++ y.0.1) r y.2) (both_lead s x.0 y.0 l (rest_leads n x.0.0 m.rest y.0 small l.few l.usable a short.1 w.1 z.2))
+    let l = functions_are s m.functions x.0 le usable w.0 x.1 in
+    subst (λ (q : FileScope × List FuncShape). Leads s q) (ok_same (y.0.0, x.0.1 ++ y.0.1) r y.2) (both_lead s x.0 y.0 l (rest_leads x.0.0 m.rest y.0 l.few l.usable w.1 z.2))
 
-alone_leads : (n : ℕ) (s : FileScope) (m : ModuleRest) (t : FileScope) → n < 2 ^ 64 → s.ops ≤ 65536 → AreUsable s.aliases → RestShown n m → alone_of s m ≡ Ok t → Leads s (t, [])
-alone_leads n s (rests.End c) t small le usable a h = absurd (cc h)
-alone_leads n s (rests.Script q e) t small le usable a h =
+alone_leads : (s : FileScope) (m : ModuleRest) (t : FileScope) → s.ops ≤ 65536 → AreMaps s.aliases → alone_of s m ≡ Ok t → Leads s (t, [])
+alone_leads s (rests.End c) t le usable h = absurd (cc h)
+alone_leads s (rests.Script q e) t le usable h =
     let x = then_ok (with_script s q) (λ t. and_then (no_function e.functions) (λ _. Ok t)) t h in
     let y = then_ok (no_function e.functions) (λ _. Ok x.0) t x.2 in
-    subst (λ (u : FileScope). Leads s (u, [])) (ok_same x.0 t y.2) (script_leads n s q x.0 small le usable a x.1)
-alone_leads n s (rests.Nested m e) t small le usable a h = absurd (cc h)
+    subst (λ (u : FileScope). Leads s (u, [])) (ok_same x.0 t y.2) (script_leads s q x.0 le usable x.1)
+alone_leads s (rests.Nested m e) t le usable h = absurd (cc h)
 
-module_leads : (n : ℕ) (stage : Stage) (s : FileScope) (m : Enclosed) (r : FileScope × List FuncShape) → n < 2 ^ 64 → s.ops ≤ 65536 → AreUsable s.aliases → RestShown n m.rest → IsShortItem (items.Module m) → ItemIs (items.Module m) → module_of stage s m ≡ Ok r → Leads s r
-module_leads n Start s m r small le usable a short w h = leads_same s (at_stage s (module_stage Start m)) r refl refl refl refl (outer_leads n (at_stage s (module_stage Start m)) m r small le usable a short w h)
-module_leads n Functions s m r small le usable a short w h =
+module_leads : (stage : Stage) (s : FileScope) (m : Enclosed) (r : FileScope × List FuncShape) → s.ops ≤ 65536 → AreMaps s.aliases → ItemIs (items.Module m) → module_of stage s m ≡ Ok r → Leads s r
+module_leads Start s m r le usable w h = leads_same s (at_stage s (module_stage Start m)) r refl refl refl refl (outer_leads (at_stage s (module_stage Start m)) m r le usable w h)
+module_leads Functions s m r le usable w h =
     let x = then_ok (later_of (at_stage s Scripted) m) (λ t. Ok (t, [])) r h in
     let y = then_ok (has_attributes m.attributes m.brace) _ x.0 x.1 in
     let z = then_ok (no_function m.functions) (λ _. alone_of (at_stage s Scripted) m.rest) x.0 y.2 in
     subst (λ (q : FileScope × List FuncShape). Leads s q) (ok_same (x.0, []) r x.2)
-    (leads_same s (at_stage s Scripted) (x.0, []) refl refl refl refl (alone_leads n (at_stage s Scripted) m.rest x.0 small le usable a z.2))
-module_leads n Scripted s m r small le usable a short w h = absurd (cc h)
-module_leads n Closed s m r small le usable a short w h = absurd (cc h)
+    (leads_same s (at_stage s Scripted) (x.0, []) refl refl refl refl (alone_leads (at_stage s Scripted) m.rest x.0 le usable z.2))
+module_leads Scripted s m r le usable w h = absurd (cc h)
+module_leads Closed s m r le usable w h = absurd (cc h)
 
 -- ---- items
 
@@ -531,37 +514,37 @@ with_alias s a = record { stage = s.stage; aliases = s.aliases ++ a ∷ []; func
 abbrev alias_shape : List ℕ → MapShape → Bool → AliasShape
 alias_shape name m symbols = record { name = name; map = m; symbols = symbols }
 
-alias_printable : (aliases : List AliasShape) (a : AliasLine) (x : AliasShape) → IsShortMap a.map → alias_in aliases a ≡ Ok x → IsPrintableMap x.map
-alias_printable aliases a x short h =
+alias_printable : (aliases : List AliasShape) (a : AliasLine) (x : AliasShape) → alias_in aliases a ≡ Ok x → IsMap x.map
+alias_printable aliases a x h =
     let d = then_ok (demand (is_none (alias_named aliases a.name.text)) (Twice a.name.start)) _ x h in
     let m = then_ok (written_map true a.map) _ x d.2 in
-    subst (λ (q : AliasShape). IsPrintableMap q.map) (ok_same (alias_shape a.name.text m.0 (has_symbols (tokens_of a.map))) x m.2) (written_printable true a.map m.0 short m.1)
+    subst (λ (q : AliasShape). IsMap q.map) (ok_same (alias_shape a.name.text m.0 (has_symbols (tokens_of a.map))) x m.2) (read_is_map true (tokens_of a.map) m.0 m.1)
 
-item_is : (n : ℕ) (s : FileScope) (i : Item) (r : FileScope × List FuncShape) → n < 2 ^ 64 → s.ops ≤ 65536 → AreUsable s.aliases → ItemShown n i → IsShortItem i → ItemIs i → item_of s i ≡ Ok r → Leads s r
-item_is n s (items.Alias a) r small le usable k short w h =
+item_is : (s : FileScope) (i : Item) (r : FileScope × List FuncShape) → s.ops ≤ 65536 → AreMaps s.aliases → ItemIs i → item_of s i ≡ Ok r → Leads s r
+item_is s (items.Alias a) r le usable w h =
     let x = then_ok (alias_of s a) (λ t. Ok (t, [])) r h in
     let y = then_ok (alias_in s.aliases a) (λ q. Ok (with_alias s q)) x.0 x.1 in
     subst (λ (q : FileScope × List FuncShape). Leads s q) (ok_same (x.0, []) r x.2)
     (subst (λ (t : FileScope). Leads s (t, [])) (ok_same (with_alias s y.0) x.0 y.2)
-    (leads_same s (with_alias s y.0) (with_alias s y.0, []) refl refl refl refl (no_func (with_alias s y.0) le (usable_last s.aliases y.0 usable (alias_printable s.aliases a y.0 short y.1)))))
-item_is n s (items.Function f) r small le usable k short w h =
+    (leads_same s (with_alias s y.0) (with_alias s y.0, []) refl refl refl refl (no_func (with_alias s y.0) le (maps_append s.aliases y.0 usable (alias_printable s.aliases a y.0 y.1)))))
+item_is s (items.Function f) r le usable w h =
     let x = then_ok (demand (not (is_closed s.stage)) (Syntax f.keyword.start)) _ r h in
     let y = then_ok (function_of (at_stage s (function_stage s.stage)) f) (λ r. Ok (r.0, r.1 ∷ [])) r x.2 in
-    let g = function_is (at_stage s (function_stage s.stage)) f y.0 usable short w y.1 in
+    let g = function_is (at_stage s (function_stage s.stage)) f y.0 usable w y.1 in
     let ops = g.ops in
     let few = g.few in
     subst (λ (q : FileScope × List FuncShape). Leads s q) (ok_same (y.0.0, y.0.1 ∷ []) r y.2)
     (leads_same s (at_stage s (function_stage s.stage)) (y.0.0, y.0.1 ∷ []) refl refl refl refl
-    (more_funcs (at_stage s (function_stage s.stage)) y.0 (y.0.0, []) g (no_func y.0.0 (omega (arith, ops, few)) (subst (λ (q : List AliasShape). AreUsable q) (sym g.aliases) usable))))
-item_is n s (items.Module m) r small le usable k short w h = module_leads n s.stage s m r small le usable k short w h
+    (more_funcs (at_stage s (function_stage s.stage)) y.0 (y.0.0, []) g (no_func y.0.0 (omega (arith, ops, few)) (subst (λ (q : List AliasShape). AreMaps q) (sym g.aliases) usable))))
+item_is s (items.Module m) r le usable w h = module_leads s.stage s m r le usable w h
 
-items_are : (n : ℕ) (s : FileScope) (is : List Item) (r : FileScope × List FuncShape) → n < 2 ^ 64 → s.ops ≤ 65536 → AreUsable s.aliases → AllByRecursion (ItemShown n) is → AllByRecursion IsShortItem is → AllByRecursion ItemIs is → items_of s is ≡ Ok r → Leads s r
-items_are n s [] r small le usable k short w h = subst (λ (q : FileScope × List FuncShape). Leads s q) (ok_same (s, []) r h) (no_func s le usable)
-items_are n s (i ∷ is) r small le usable k short w h =
+items_are : (s : FileScope) (is : List Item) (r : FileScope × List FuncShape) → s.ops ≤ 65536 → AreMaps s.aliases → AllByRecursion ItemIs is → items_of s is ≡ Ok r → Leads s r
+items_are s [] r le usable w h = subst (λ (q : FileScope × List FuncShape). Leads s q) (ok_same (s, []) r h) (no_func s le usable)
+items_are s (i ∷ is) r le usable w h =
     let a = then_ok (item_of s i) (λ q. and_then (items_of q.0 is) (λ p. Ok (p.0, q.1 ++ p.1))) r h in
     let b = then_ok (items_of a.0.0 is) (λ p. Ok (p.0, a.0.1 ++ p.1)) r a.2 in
-    let l = item_is n s i a.0 small le usable k.0 short.0 w.0 a.1 in
-    subst (λ (q : FileScope × List FuncShape). Leads s q) (ok_same (b.0.0, a.0.1 ++ b.0.1) r b.2) (both_lead s a.0 b.0 l (items_are n a.0.0 is b.0 small l.few l.usable k.1 short.1 w.1 b.1))
+    let l = item_is s i a.0 le usable w.0 a.1 in
+    subst (λ (q : FileScope × List FuncShape). Leads s q) (ok_same (b.0.0, a.0.1 ++ b.0.1) r b.2) (both_lead s a.0 b.0 l (items_are a.0.0 is b.0 l.few l.usable w.1 b.1))
 
 none_behind : (s : FileScope) → s.ops ≤ 65536 → FuncsRead s []
 none_behind s le = record { printable = tt; names = tt; numbers = refl; few = omega arith }
@@ -578,10 +561,10 @@ abbrev file_of : List FuncShape → Option Script → File
 file_of fs script = record { «module» = record { funcs = fs }; script = script }
 
 -- what a tree stands for is printable and numbered as its text, whose tokens are of their classes
-pub file_is : (n : ℕ) (t : Text) (f : File) → n < 2 ^ 64 → AllByRecursion (ItemShown n) t.items → AllByRecursion IsShortItem t.items → AllByRecursion ItemIs t.items → resolve t ≡ Ok f → FileRead f
-file_is n t f small k short w h =
+pub file_is : (t : Text) (f : File) → AllByRecursion ItemIs t.items → resolve t ≡ Ok f → FileRead f
+file_is t f w h =
     let x = then_ok (items_of start t.items) _ f h in
-    let l = items_are n start t.items x.0 small (omega arith) tt k short w x.1 in
+    let l = items_are start t.items x.0 (omega arith) tt w x.1 in
     let r = subst (λ (fs : List FuncShape). FuncsRead start fs) (append-nil x.0.1) (l.onto [] (none_behind x.0.0 l.few)) in
     let few = r.few in
     let s = script_is x.0.0.script (l.script tt) in
@@ -589,41 +572,3 @@ file_is n t f small k short w h =
       printable = record { funcs = r.printable; names = r.names; few_ops = omega (arith, few); script = s.0 };
       number = ap (λ (fs : List FuncShape). file_of fs (script_renumbered x.0.0.script)) r.numbers ∙ ap (file_of x.0.1) s.1;
     })
-
--- ---- a text has a token for each result of a script's step
-
-append_left : (xs ys : List Spelled) (n : ℕ) → length (xs ++ ys) ≤ n → length xs ≤ n
-append_left xs ys n h = let e = length-append xs ys in omega (arith, e, h)
-
-append_right : (xs ys : List Spelled) (n : ℕ) → length (xs ++ ys) ≤ n → length ys ≤ n
-append_right xs ys n h = let e = length-append xs ys in omega (arith, e, h)
-
-module_shown : (n : ℕ) (m : ScriptModule) → length (file_grammar.script_module.spell m) ≤ n → AreShown n m.script.lines
-unfolding file_grammar.script_module
-module_shown n m h = long_shown m.script n (append_left (sequence.spell m.script) (Fixed CloseBrace ∷ []) n (omega (arith, h)))
-
-rest_shown : (n : ℕ) (r : ModuleRest) → length (file_grammar.module_rest.spell r) ≤ n → RestShown n r
-unfolding file_grammar.module_rest
-rest_shown n (rests.End t) h = tt
-rest_shown n (rests.Script q e) h = long_shown q n (append_left (sequence.spell q) _ n h)
-rest_shown n (rests.Nested m e) h = module_shown n m (append_left (file_grammar.script_module.spell m) _ n h)
-
-enclosed_shown : (n : ℕ) (m : Enclosed) → length (file_grammar.enclosed.spell m) ≤ n → RestShown n m.rest
-unfolding file_grammar.enclosed
-enclosed_shown n m h =
-    let a = append_right (spell_some file_grammar.module_attributes m.attributes) (Leaf (Exactly OpenBrace) m.brace ∷ (spell_many file_grammar.function m.functions ++ file_grammar.module_rest.spell m.rest)) n (omega (arith, h)) in
-    rest_shown n m.rest (append_right (spell_many file_grammar.function m.functions) (file_grammar.module_rest.spell m.rest) n (omega (arith, a)))
-
-item_shown : (n : ℕ) (i : Item) → length (file_grammar.item.spell i) ≤ n → ItemShown n i
-unfolding file_grammar.item
-item_shown n (items.Alias a) h = tt
-item_shown n (items.Function f) h = tt
-item_shown n (items.Module m) h = enclosed_shown n m h
-
-items_shown : (n : ℕ) (is : List Item) → length (spell_many file_grammar.item is) ≤ n → AllByRecursion (ItemShown n) is
-items_shown n [] h = tt
-items_shown n (i ∷ is) h = (item_shown n i (append_left (file_grammar.item.spell i) _ n h), items_shown n is (append_right (file_grammar.item.spell i) (spell_many file_grammar.item is) n h))
-
-pub text_shown : (n : ℕ) (t : Text) → length (file_grammar.text.spell t) ≤ n → AllByRecursion (ItemShown n) t.items
-unfolding file_grammar.text
-text_shown n t h = items_shown n t.items h

@@ -1,5 +1,5 @@
 -- The canonical text of what is read stands for it.
-use Rattle.std.proofs.Common.{◌≡◌, ◌≤◌, ◌^◌, ℕ, List, None, length, arith, Ok, Err, Result, sym, ap, subst, ◌∙◌, []}
+use Rattle.std.proofs.Common.{◌≡◌, ℕ, List, None, length, Ok, Err, Result, sym, ap, subst, ◌∙◌, []}
 use Rattle.text_format.specs.Token.{TokenShape}
 use Rattle.text_format.specs.Pieces.{Piece, IsSpaced, bytes_of, spans_at, shapes_at}
 use Rattle.text_format.specs.Tokens as lexed
@@ -25,10 +25,7 @@ use Rattle.text_format.proofs.Written.{matched}
 use Rattle.mlir_roundtrip.proofs.FileFitting.{text_fits}
 use Rattle.mlir_roundtrip.proofs.FileRounds.{text_found}
 use Rattle.mlir_roundtrip.proofs.Symbols.{spelled_items}
-use Rattle.mlir_roundtrip.proofs.Short.{text_short}
-use Rattle.mlir_roundtrip.proofs.TokenCount.{few_tokens}
-use Rattle.mlir_roundtrip.proofs.Functions.{FileRead, file_is, text_shown}
-use Rattle.script_roundtrip.proofs.Shown.{matched_long}
+use Rattle.mlir_roundtrip.proofs.Functions.{FileRead, file_is}
 
 abbrev got : List TokenShape → Result (List TokenShape) lexed.Fault → List TokenShape
 got d (Ok x) = x
@@ -55,17 +52,13 @@ canonical_stands m h =
     )
 
 -- What a text stands for is printable, and has the numbers of its canonical text.
-pub read_is_printable : (source : List ℕ) (f : File) → length source ≤ 2 ^ 32 → StandsFor source f → FileRead f
-read_is_printable source f few st =
-    let count = few_tokens source st.1.0 st.1.1 in
-    let e = matched_long (text.spell st.0) (tokens_in source st.1.0) st.1.2 in
-    file_is (length source) st.0 f (omega (arith, few)) (text_shown (length source) st.0 (omega (arith, count, e)))
-    (text_short st.0 (tokens_in source st.1.0) st.1.2 (omega (arith, few, count))) (spelled_items source st.0 st.1.0 st.1.1 st.1.2) st.2
+pub read_is_printable : (source : List ℕ) (f : File) → StandsFor source f → FileRead f
+read_is_printable source f st = file_is st.0 f (spelled_items source st.0 st.1.0 st.1.1 st.1.2) st.2
 
 -- The canonical text of what a text stands for stands for it.
-pub reads_back : (source : List ℕ) (f : File) → length source ≤ 2 ^ 32 → StandsFor source f → StandsFor (text_of f) f
-reads_back source f few st =
-    let r = read_is_printable source f few st in
+pub reads_back : (source : List ℕ) (f : File) → StandsFor source f → StandsFor (text_of f) f
+reads_back source f st =
+    let r = read_is_printable source f st in
     subst (λ (x : File). StandsFor (text_of f) x) r.number (canonical_stands f r.printable)
 
 abbrev read_in : File → Result File ReadError → File

@@ -16,7 +16,6 @@ pub mod Laws
 mod Leaves
 pub mod MapUses
 pub mod Maps
-pub mod MapsRead
 pub mod ModuleMaps
 pub mod Numbers
 pub mod Operations
@@ -30,13 +29,11 @@ pub mod Regions
 pub mod Rounds
 pub mod Rows
 mod Scripts
-pub mod Short
 pub mod Spaced
 pub mod Spelled
 mod Spots
 mod StepsRead
 pub mod Symbols
-mod TokenCount
 mod Typed
 pub mod Usable
 pub mod Values

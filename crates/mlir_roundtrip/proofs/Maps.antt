@@ -1,5 +1,5 @@
 -- Maps as they are written: spelled, of their classes, well spaced, and read back.
-use Rattle.std.proofs.Common.{◌≡◌, ◌≤◌, ◌^◌, ℕ, zero, suc, ◌+◌, ◌==◌, Bool, true, false, cond, ℤ, pos, negsuc, List, [], ◌∷◌, ◌++◌, map, drop, length, unsigned_abs, Ok, refl, sym, ap, subst, ◌∙◌}
+use Rattle.std.proofs.Common.{◌≡◌, ℕ, zero, suc, ◌+◌, ◌==◌, Bool, true, false, cond, ℤ, pos, negsuc, List, [], ◌∷◌, ◌++◌, map, drop, length, unsigned_abs, Ok, refl, sym, ap, subst, ◌∙◌}
 use Rattle.std.specs.List.{AllByRecursion}
 use Rattle.affine_maps.specs.Shape.{MapShape}
 use Rattle.affine_maps.specs.Map.{IsMap}
@@ -23,8 +23,8 @@ use Rattle.text_format.specs.Formats as F
 use Rattle.text_format.proofs.Spacing.{IsApart, spaced_append}
 use Rattle.mlir_syntax.specs.declared.tree.maps.MapPiece.{MapPiece}
 use Rattle.mlir_syntax.specs.Maps as map_grammar
-use Rattle.mlir_resolve.specs.Maps.{tokens_of, written_map, map_or_fault, has_symbols}
-use Rattle.mlir_resolve.proofs.MapSymbols.{symbols_told}
+use Rattle.mlir_scope.specs.Maps.{tokens_of, written_map, map_or_fault, has_symbols}
+use Rattle.mlir_scope.proofs.MapSymbols.{symbols_told}
 use Rattle.text_format.specs.Writers.{Writer, pair}
 use Rattle.mlir_print.specs.Maps.{map_token, inner_pieces, tokens_at, written_at}
 use Rattle.text_format.proofs.Written.{LeavesFit, both_fit}
@@ -160,13 +160,13 @@ written_if ps rest h = (
   (subst (λ (bs : List ℕ). Ends (lexeme_kind lexemes.Less) (lexeme_text lexemes.Less) (bs ++ rest)) (inner_bytes ps) h.1.0, inner_spaced ps rest h.1.1),
 )
 
-pub written_spaced : (m : MapShape) → IsMap m → m.dims ≤ 2 ^ 32 → (rest : List ℕ) → IsSpaced (written_at m).pieces rest
+pub written_spaced : (m : MapShape) → IsMap m → (rest : List ℕ) → IsSpaced (written_at m).pieces rest
 unfolding inner_pieces map_front
-written_spaced m i d rest = written_if (drop 2 (map_front MapToken m)) rest (map_spaced MapToken m i d rest)
+written_spaced m i rest = written_if (drop 2 (map_front MapToken m)) rest (map_spaced MapToken m i rest)
 
 -- so anything may come behind it
-pub written_then : (m : MapShape) {ps : List Piece} → IsMap m → m.dims ≤ 2 ^ 32 → IsApart ps → IsApart ((written_at m).pieces ++ ps)
-written_then m {ps = ps} i d h = record { spaced = λ rest t. spaced_append (written_at m).pieces ps rest (written_spaced m i d (bytes_of ps ++ rest)) (h.spaced rest t) }
+pub written_then : (m : MapShape) {ps : List Piece} → IsMap m → IsApart ps → IsApart ((written_at m).pieces ++ ps)
+written_then m {ps = ps} i h = record { spaced = λ rest t. spaced_append (written_at m).pieces ps rest (written_spaced m i (bytes_of ps ++ rest)) (h.spaced rest t) }
 
 -- ---- it reads back
 
@@ -202,9 +202,9 @@ tree_tokens : (m : MapShape) (at : ℕ) → map_tokens (map_tree MapToken at m) 
 tree_tokens m at = map_spelled MapToken m at ∙ sym (tokens_are m at)
 
 -- the map is read, whether symbols are allowed or not
-pub written_found : (m : MapShape) (symbols : Bool) (at : ℕ) → IsMap m → m.dims ≤ 2 ^ 32 → written_map symbols ((written_at m).tree at) ≡ Ok m
-written_found m symbols at i d =
-    ap map_or_fault (reads_tree symbols (tokens_of ((written_at m).tree at)) (map_tree MapToken at m) (map_fits MapToken at m symbols i d) (tree_tokens m at) ∙ map_means MapToken at m i d)
+pub written_found : (m : MapShape) (symbols : Bool) (at : ℕ) → IsMap m → written_map symbols ((written_at m).tree at) ≡ Ok m
+written_found m symbols at i =
+    ap map_or_fault (reads_tree symbols (tokens_of ((written_at m).tree at)) (map_tree MapToken at m) (map_fits MapToken at m symbols i) (tree_tokens m at) ∙ map_means MapToken at m i)
 
 pub no_symbols : (m : MapShape) (at : ℕ) → has_symbols (tokens_of ((written_at m).tree at)) ≡ false
 unfolding map_tree

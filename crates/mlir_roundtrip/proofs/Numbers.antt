@@ -12,7 +12,7 @@ use Rattle.payload_ops.specs.Payload.{bits_of, is_elem, is_value, has_type}
 use Rattle.payload_ops.proofs.Words.{signed-low, signed-high, pow-double}
 use Rattle.payload_ops.proofs.Joined.{reduce-signed_of}
 use Rattle.text_format.specs.Types.{element_of}
-use Rattle.mlir_resolve.specs.Literals.{spelled_from, digits_value, is_negative, signed_by, most_of, literal_of, is_near, is_written}
+use Rattle.mlir_scope.specs.Literals.{spelled_from, digits_value, is_negative, signed_by, most_of, literal_of, is_near, is_written}
 use Rattle.mlir_print.specs.Types.{elem_text}
 use Rattle.mlir_print.specs.Literals.{number_at, literal_if, literal_at}
 use Rattle.mlir_roundtrip.proofs.Fits.{found_type, same_elem}

@@ -43,17 +43,17 @@ use Rattle.mlir_syntax.specs.Structured as structured_grammar
 use Rattle.mlir_syntax.specs.Operations as operation_grammar
 use Rattle.mlir_lex.specs.declared.fault.Fault.TheVariants.{Limit, Number}
 use Rattle.mlir_lex.specs.Chain.{demand, each}
-use Rattle.mlir_resolve.specs.Names.{Entry}
-use Rattle.mlir_resolve.specs.Types.{type_at, elem_of}
-use Rattle.mlir_resolve.specs.Literals.{digits_value, is_negative, place_of_number}
-use Rattle.mlir_resolve.specs.Scope.{value, same_operand, typed_as, value_id, type_of}
-use Rattle.mlir_resolve.specs.Payload.{parts_of, payload_of}
-use Rattle.mlir_resolve.specs.Maps.{AliasShape, map_of}
-use Rattle.mlir_resolve.specs.Generics.{iterator_in, iterator_of, iterators_from, operand_of, more_inputs, inputs_of, input_types, typed_inputs, typed_output, operands_of, generic_with, generic_of}
+use Rattle.mlir_scope.specs.Names.{Entry}
+use Rattle.mlir_scope.specs.Types.{type_at, elem_of}
+use Rattle.mlir_scope.specs.Literals.{digits_value, is_negative, place_of_number}
+use Rattle.mlir_scope.specs.Scope.{value, same_operand, typed_as, value_id, type_of, operand_of}
+use Rattle.mlir_payload.specs.Payload.{parts_of, payload_of}
+use Rattle.mlir_scope.specs.Maps.{AliasShape, map_of, AreMaps}
+use Rattle.mlir_resolve.specs.Generics.{iterator_in, iterator_of, iterators_from, more_inputs, inputs_of, input_types, typed_inputs, typed_output, operands_of, generic_with, generic_of}
 use Rattle.mlir_resolve.specs.Structured.{is_axis, axis_of, typed_id, output_of, fill_of, factors_of, product_of, moved_of, transpose_of, broadcast_of}
 use Rattle.mlir_resolve.specs.Operations.{kind_of}
-use Rattle.mlir_resolve.proofs.Keeps.{then_ok}
-use Rattle.mlir_resolve.proofs.Fitting.{parts_fit}
+use Rattle.mlir_scope.proofs.Keeps.{then_ok}
+use Rattle.mlir_payload.proofs.Fitting.{parts_fit}
 use Rattle.mlir_print.specs.Names.{Row}
 use Rattle.mlir_print.specs.Renumbered.{number_in, kind_renumbered}
 use Rattle.mlir_roundtrip.specs.Printable.{IsDefined, row_in, elem_in, IsTensorValue, IsScalarValue, IsPrintableProduct, IsPrintableKind, IsPrintableStep}
@@ -62,8 +62,7 @@ use Rattle.mlir_roundtrip.proofs.Typed.{tensor_typed, scalar_typed}
 use Rattle.mlir_roundtrip.proofs.Values.{Reads, value_row, row_defined, row_number, row_elem, row_type}
 use Rattle.mlir_roundtrip.proofs.StepsRead.{parts_are}
 use Rattle.mlir_roundtrip.proofs.Symbols.{AreLeaves, leaves_left, leaves_right}
-use Rattle.mlir_roundtrip.proofs.MapUses.{AreUsable, usable_maps, maps_are}
-use Rattle.mlir_roundtrip.proofs.Short.{IsShortStep, IsShortGeneric, IsShortOperation}
+use Rattle.mlir_roundtrip.proofs.MapUses.{maps_are}
 use Rattle.mlir_roundtrip.proofs.ConstantsRead.{IsConstant, constant_is, constant_kind}
 
 -- ---- the tokens of types
@@ -288,12 +287,12 @@ module _ (base : ℕ) where
   abbrev whole : List ElemTy → ElemTy → List PayloadStep × Arg → PayloadShape
   whole ins out q = record { ins = ins; out = out; steps = q.0; yielded = q.1 }
 
-  payload_is : (rows : List Row) (env : List Entry) → Reads base rows env → (alias : List AliasShape) → AreUsable alias → (ins : List ElemTy) (out : ElemTy) (region : Region) (p : PayloadShape) → AllByRecursion IsShortStep region.steps → payload_of alias env ins out region ≡ Ok p → PayloadRead ins out p
-  payload_is rows env r alias usable ins out region p short h =
+  payload_is : (rows : List Row) (env : List Entry) → Reads base rows env → (alias : List AliasShape) → AreMaps alias → (ins : List ElemTy) (out : ElemTy) (region : Region) (p : PayloadShape) → payload_of alias env ins out region ≡ Ok p → PayloadRead ins out p
+  payload_is rows env r alias usable ins out region p h =
       let a = then_ok (parts_of alias env ins out region) _ p h in
-      let s = parts_are alias env ins out region a.0 r.outer usable short a.1 in
+      let s = parts_are alias env ins out region a.0 r.outer usable a.1 in
       subst (λ (x : PayloadShape). PayloadRead ins out x) (ok_same (whole ins out a.0) p a.2)
-      (record { is_ins = refl; is_out = refl; fits = parts_fit alias env ins out region a.0 (usable_maps alias usable) r.outer a.1; steps = s.0; few = s.1 })
+      (record { is_ins = refl; is_out = refl; fits = parts_fit alias env ins out region a.0 usable r.outer a.1; steps = s.0; few = s.1 })
 
   -- ---- operations
 
@@ -302,26 +301,22 @@ module _ (base : ℕ) where
     pub printable : IsPrintableKind rows k.0 k.1
     pub number : kind_renumbered (number_in base rows) k.1 ≡ k.1
 
-  generic_is : (rows : List Row) (env : List Entry) → Reads base rows env → (alias : List AliasShape) (g : Generic) (k : Ty × OpKind) → AreUsable alias → IsShortGeneric g → IsRanked g.operands.output.ty → generic_of alias env g ≡ Ok k → KindRead rows k
-  generic_is rows env r alias g k usable short t h =
+  generic_is : (rows : List Row) (env : List Entry) → Reads base rows env → (alias : List AliasShape) (g : Generic) (k : Ty × OpKind) → AreMaps alias → IsRanked g.operands.output.ty → generic_of alias env g ≡ Ok k → KindRead rows k
+  generic_is rows env r alias g k usable t h =
       let a = then_ok (each (map_of alias) g.maps) _ k h in
       let i = then_ok (iterators_from 0 g.iterators) _ k a.2 in
       let b = then_ok (operands_of env g.operands) _ k i.2 in
       let c = then_ok (payload_of alias env (map (λ (v : ValueId × ElemTy). v.1) b.0.0) b.0.1.1 g.region) _ k b.2 in
       let d = then_ok (type_at g.result_type) _ k c.2 in
       let o = operands_are rows env r g.operands b.0 t b.1 in
-      let p = payload_is rows env r alias usable (map (λ (v : ValueId × ElemTy). v.1) b.0.0) b.0.1.1 g.region c.0 short.steps c.1 in
+      let p = payload_is rows env r alias usable (map (λ (v : ValueId × ElemTy). v.1) b.0.0) b.0.1.1 g.region c.0 c.1 in
       let len = length_map (λ (v : ValueId × ElemTy). v.0) b.0.0 in
       let loops = iterators_few 0 g.iterators i.0 (omega arith) i.1 in
-      let ms = maps_are alias g.maps a.0 usable short.maps.all a.1 in
-      let same = ms.few in
-      let few = short.maps.few in
       subst (λ (x : Ty × OpKind). KindRead rows x) (ok_same (d.0, generic_with a.0 i.0 b.0.0 b.0.1.0 c.0) k d.2)
       (record {
         printable = record {
           result = type_row g.result_type d.0 d.1;
-          maps_printable = ms.maps;
-          few_maps = omega (arith, same, few);
+          maps_printable = maps_are alias g.maps a.0 usable a.1;
           few_iterators = omega arith;
           not_captured = refl;
           few = omega (arith, o.out.few, len);
@@ -442,15 +437,15 @@ module _ (base : ℕ) where
   constant_number rows (kinds.Constant cells) h = refl
   constant_number rows o h = absurd h
 
-  pub kind_is : (rows : List Row) (env : List Entry) → Reads base rows env → (alias : List AliasShape) (o : Operation) (k : Ty × OpKind) → AreUsable alias → IsShortOperation o → OperationIs o → kind_of alias env o ≡ Ok k → KindRead rows k
+  pub kind_is : (rows : List Row) (env : List Entry) → Reads base rows env → (alias : List AliasShape) (o : Operation) (k : Ty × OpKind) → AreMaps alias → OperationIs o → kind_of alias env o ≡ Ok k → KindRead rows k
   unfolding kind_of
-  kind_is rows env r alias (operations.Constant c) k usable short t h = record { printable = constant_is rows c.literal k h; number = constant_number rows k.1 (constant_kind c.literal k h) }
-  kind_is rows env r alias (operations.Empty e) k usable short t h =
+  kind_is rows env r alias (operations.Constant c) k usable t h = record { printable = constant_is rows c.literal k h; number = constant_number rows k.1 (constant_kind c.literal k h) }
+  kind_is rows env r alias (operations.Empty e) k usable t h =
       let b = then_ok (type_at e.ty) _ k h in
       subst (λ (x : Ty × OpKind). KindRead rows x) (ok_same (b.0, kinds.Empty []) k b.2) (record { printable = (refl, type_row e.ty b.0 b.1); number = refl })
-  kind_is rows env r alias (operations.Generic g) k usable short t h = generic_is rows env r alias g k usable short (generic_type g t) h
-  kind_is rows env r alias (operations.Fill f) k usable short t h = fill_is rows env r f k (fill_types f t) h
-  kind_is rows env r alias (operations.Matmul m) k usable short t h = product_is kinds.Matmul rows env r m.factors k (matmul_types m t) (λ ty a b o p. record { printable = p.printable; number = p.numbers kinds.Matmul }) h
-  kind_is rows env r alias (operations.BatchMatmul m) k usable short t h = product_is kinds.BatchMatmul rows env r m.factors k (batch_matmul_types m t) (λ ty a b o p. record { printable = p.printable; number = p.numbers kinds.BatchMatmul }) h
-  kind_is rows env r alias (operations.Transpose t) k usable short c h = transpose_is rows env r t k (transpose_types t c) h
-  kind_is rows env r alias (operations.Broadcast t) k usable short c h = broadcast_is rows env r t k (broadcast_types t c) h
+  kind_is rows env r alias (operations.Generic g) k usable t h = generic_is rows env r alias g k usable (generic_type g t) h
+  kind_is rows env r alias (operations.Fill f) k usable t h = fill_is rows env r f k (fill_types f t) h
+  kind_is rows env r alias (operations.Matmul m) k usable t h = product_is kinds.Matmul rows env r m.factors k (matmul_types m t) (λ ty a b o p. record { printable = p.printable; number = p.numbers kinds.Matmul }) h
+  kind_is rows env r alias (operations.BatchMatmul m) k usable t h = product_is kinds.BatchMatmul rows env r m.factors k (batch_matmul_types m t) (λ ty a b o p. record { printable = p.printable; number = p.numbers kinds.BatchMatmul }) h
+  kind_is rows env r alias (operations.Transpose t) k usable c h = transpose_is rows env r t k (transpose_types t c) h
+  kind_is rows env r alias (operations.Broadcast t) k usable c h = broadcast_is rows env r t k (broadcast_types t c) h

@@ -19,10 +19,9 @@ use Rattle.text_format.specs.Pieces.{Piece}
 use Rattle.mlir_print.specs.declared.names.Given.{Given}
 use Rattle.mlir_print.specs.declared.names.Given.TheVariants.{Argument}
 use Rattle.mlir_print.specs.Names.{local_name}
-use Rattle.mlir_print.specs.Maps.{linear_map, step_map}
-use Rattle.mlir_print.proofs.LinearMaps.{has_step_map}
+use Rattle.mlir_print.specs.Maps.{linear_map}
 use Rattle.text_format.specs.Writers.{each_of, commas}
-use Rattle.mlir_print.specs.Payloads.{next_args_at, block_args_at, apply_operand_at, apply_at, linear_if, step_at, steps_at, region_at, elem_or, type_in as arg_type_in, operation_at as step_operation_at}
+use Rattle.mlir_print.specs.Payloads.{next_args_at, block_args_at, apply_operand_at, apply_at, step_at, steps_at, region_at, elem_or, type_in as arg_type_in, operation_at as step_operation_at}
 use Rattle.text_format.specs.Classes.{holds}
 use Rattle.text_format.specs.Types.{is_some, element_of}
 use Rattle.payload_ops.specs.declared.kinds.BinOp.{BinOp}
@@ -31,10 +30,10 @@ use Rattle.payload_ops.specs.declared.kinds.Predicate.{Predicate}
 use Rattle.payload_ops.specs.declared.kinds.Predicate.TheVariants as predicates
 use Rattle.payload_ops.specs.declared.step.StepOp.TheVariants as ops
 use Rattle.payload_ops.specs.Bits.{signed_of}
-use Rattle.mlir_resolve.specs.declared.words.Cast.{Cast}
-use Rattle.mlir_resolve.specs.declared.words.Cast.TheVariants as changes
-use Rattle.mlir_resolve.specs.Words.{binary_text, predicate_text, cast_text}
-use Rattle.mlir_resolve.specs.Literals.{is_written}
+use Rattle.mlir_scope.specs.declared.words.Cast.{Cast}
+use Rattle.mlir_scope.specs.declared.words.Cast.TheVariants as changes
+use Rattle.mlir_scope.specs.Words.{binary_text, predicate_text, cast_text}
+use Rattle.mlir_scope.specs.Literals.{is_written}
 use Rattle.mlir_print.specs.Literals.{truth_text, number_at, literal_if, literal_at}
 use Rattle.mlir_roundtrip.specs.Printable.{IsPrintableOp, IsPrintableStep}
 use Rattle.mlir_roundtrip.proofs.Fits.{arg_text, cast_found, mapped, narrowing_found, one_found, widening_found}
@@ -145,14 +144,11 @@ operands_fit name (t ∷ ts) = ((refl, tt), operands_fit name ts)
 apply_fit : (al : List MapShape) (name : Arg → Given) (m : MapShape) (ts : List (Arg × ℤ)) → LeavesFit (apply_at al name m ts).pieces
 apply_fit al name m ts = (refl, (refl, both_fit (commas (map (apply_operand_at name) ts)).pieces _ (commas_fit (map (apply_operand_at name) ts) (operands_fit name ts)) tt))
 
-linear_fit : (al : List MapShape) (name : Arg → Given) (c : ℤ) (ts : List (Arg × ℤ)) → length ts < 2 ^ 32 → LeavesFit (linear_if al name (step_map (ops.Linear c ts)) ts).pieces
-linear_fit al name c ts few = subst (λ o. LeavesFit (linear_if al name o ts).pieces) (sym (has_step_map c ts few)) (apply_fit al name (linear_map c ts) ts)
-
 step_operation_fit : (al : List MapShape) (name : Arg → Given) (type : Arg → List ℕ) (e : ElemTy) (o : StepOp) → IsWrittenElem e → IsPrintableOp e o → IsFitStep type o → LeavesFit (step_operation_at al name type e o).pieces
 step_operation_fit al name type e (ops.Const v) h i f = (refl, literal_fits e v h)
 step_operation_fit al name type e (ops.Index k) h i f = (refl, (refl, tt))
 step_operation_fit al name type e (ops.Captured k) h i f = absurd i
-step_operation_fit al name type e (ops.Linear c ts) h i f = linear_fit al name c ts i
+step_operation_fit al name type e (ops.Linear c ts) h i f = apply_fit al name (linear_map c ts) ts
 step_operation_fit al name type e (ops.Binary op x y) h i f = (binary_fits op, (refl, (refl, (h, tt))))
 step_operation_fit al name type e (ops.Compare k x y) h i f = (refl, (predicate_fits k, (refl, (refl, (f, tt)))))
 step_operation_fit al name type e (ops.Select c x y) h i f = (refl, (refl, (refl, (refl, (h, tt)))))

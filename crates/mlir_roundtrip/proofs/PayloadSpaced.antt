@@ -28,10 +28,9 @@ use Rattle.mlir_syntax.specs.declared.tree.payloads.NextArg.{NextArg}
 use Rattle.mlir_print.specs.declared.names.Given.{Given}
 use Rattle.mlir_print.specs.Types.{elem_text}
 use Rattle.mlir_print.specs.Names.{given_text, local_name}
-use Rattle.mlir_print.specs.Maps.{linear_map, step_map, listed, steps_maps, alias_of}
-use Rattle.mlir_print.proofs.LinearMaps.{has_step_map}
+use Rattle.mlir_print.specs.Maps.{linear_map, op_maps, steps_maps, alias_of}
 use Rattle.text_format.specs.Writers.{Writer, each_of, commas}
-use Rattle.mlir_print.specs.Payloads.{block_arg_at, next_arg_at, next_args_at, block_args_at, step_at, steps_at, region_at, new_line, elem_or, type_in as arg_type_in, conversion_at, cast_at, apply_operand_at, apply_at, linear_if, operation_at as step_operation_at}
+use Rattle.mlir_print.specs.Payloads.{block_arg_at, next_arg_at, next_args_at, block_args_at, step_at, steps_at, region_at, new_line, elem_or, type_in as arg_type_in, conversion_at, cast_at, apply_operand_at, apply_at, operation_at as step_operation_at}
 use Rattle.payload_ops.specs.declared.kinds.BinOp.{BinOp}
 use Rattle.payload_ops.specs.declared.kinds.BinOp.TheVariants as binaries
 use Rattle.payload_ops.specs.declared.kinds.Predicate.{Predicate}
@@ -39,10 +38,10 @@ use Rattle.payload_ops.specs.declared.kinds.Predicate.TheVariants as predicates
 use Rattle.payload_ops.specs.declared.step.StepOp.TheVariants as ops
 use Rattle.payload_ops.specs.Bits.{signed_of}
 use Rattle.payload_ops.proofs.Words.{signed-low, signed-high}
-use Rattle.mlir_resolve.specs.declared.words.Cast.{Cast}
-use Rattle.mlir_resolve.specs.declared.words.Cast.TheVariants as changes
-use Rattle.mlir_resolve.specs.Words.{binary_text, predicate_text, cast_text}
-use Rattle.mlir_resolve.specs.Literals.{is_written}
+use Rattle.mlir_scope.specs.declared.words.Cast.{Cast}
+use Rattle.mlir_scope.specs.declared.words.Cast.TheVariants as changes
+use Rattle.mlir_scope.specs.Words.{binary_text, predicate_text, cast_text}
+use Rattle.mlir_scope.specs.Literals.{is_written}
 use Rattle.mlir_print.specs.Literals.{truth_text, number_at, literal_if, literal_at}
 use Rattle.text_format.specs.declared.lexeme.Lexeme.{Lexeme}
 use Rattle.mlir_roundtrip.specs.Printable.{IsPrintableOp, IsPrintableStep}
@@ -167,7 +166,7 @@ abbrev IsSmallStep : List MapShape → (Arg → Given) → (Arg → List ℕ) �
 IsSmallStep al name type e (ops.Const v) = is_value e v ≡ true
 IsSmallStep al name type e (ops.Index k) = k < 2 ^ 64
 IsSmallStep al name type e (ops.Captured k) = ⊥
-IsSmallStep al name type e (ops.Linear c ts) = (length ts < 2 ^ 32) × IsName Alias (alias_of al (linear_map c ts)) × AllByRecursion (λ t. IsSmall (name t.0)) ts
+IsSmallStep al name type e (ops.Linear c ts) = IsName Alias (alias_of al (linear_map c ts)) × AllByRecursion (λ t. IsSmall (name t.0)) ts
 IsSmallStep al name type e (ops.Binary op x y) = IsSmall (name x) × IsSmall (name y)
 IsSmallStep al name type e (ops.Compare k x y) = IsSmall (name x) × IsSmall (name y) × IsName Word (type x)
 IsSmallStep al name type e (ops.Select c x y) = IsSmall (name c) × IsSmall (name x) × IsSmall (name y)
@@ -206,15 +205,12 @@ apply_apart al name m ts n s =
     step_word lexemes.AffineApply refl (leaf_name classes.Alias n (fixed_opens lexemes.OpenParenthesis refl) (fixed_closed lexemes.OpenParenthesis refl
     (append_apart (commas (map (apply_operand_at name) ts)).pieces _ (commas_apart (map (apply_operand_at name) ts) (operands_apart name ts s)) (fixed_opens lexemes.CloseParenthesis refl) (fixed_closed lexemes.CloseParenthesis refl none_apart))))
 
-linear_apart : (al : List MapShape) (name : Arg → Given) (c : ℤ) (ts : List (Arg × ℤ)) → length ts < 2 ^ 32 → IsName Alias (alias_of al (linear_map c ts)) → AllByRecursion (λ t. IsSmall (name t.0)) ts → IsApart (linear_if al name (step_map (ops.Linear c ts)) ts).pieces
-linear_apart al name c ts few n s = subst (λ o. IsApart (linear_if al name o ts).pieces) (sym (has_step_map c ts few)) (apply_apart al name (linear_map c ts) ts n s)
-
 step_operation_apart : (al : List MapShape) (name : Arg → Given) (type : Arg → List ℕ) (e : ElemTy) (o : StepOp) → is_written e ≡ true → IsSmallStep al name type e o → IsApart (step_operation_at al name type e o).pieces
 step_operation_apart al name type e (ops.Const v) t p = step_word lexemes.ArithConstant refl (literal_apart e v t p)
 step_operation_apart al name type e (ops.Index k) t p =
     step_word lexemes.LinalgIndex refl (leaf_name classes.Number (decimal_name k p) space_opens (space (fixed_closed lexemes.Colon refl (space (fixed_word lexemes.Index refl none_opens none_apart)))))
 step_operation_apart al name type e (ops.Captured k) t p = absurd p
-step_operation_apart al name type e (ops.Linear c ts) t p = linear_apart al name c ts p.0 p.1 p.2
+step_operation_apart al name type e (ops.Linear c ts) t p = apply_apart al name (linear_map c ts) ts p.0 p.1
 step_operation_apart al name type e (ops.Binary op x y) t p =
     leaf_name (classes.BinaryName places.PayloadStep) (binary_name op) space_opens (space (operands_apart_by (name x) (name y) (elem_text e) p.0 p.1 (elem_name e (written_small e t))))
 step_operation_apart al name type e (ops.Compare k x y) t p =
@@ -300,13 +296,13 @@ terms_small name type at (t ∷ ts) k h =
     let q = and_parts (has_type (at t.0) Index) (is_coefficient t.1) p.0 in
     (k.small t.0 Index (found_type (at t.0) Index q.0), terms_small name type at ts k p.1)
 
-step_small : (al : List MapShape) (name : Arg → Given) (type : Arg → List ℕ) (at : Arg → Option ElemTy) (e : ElemTy) (o : StepOp) → ArgsSmall name type at → AreNamed al (listed (step_map o)) → op_fits at e o ≡ true → IsPrintableOp e o → IsSmallStep al name type e o
+step_small : (al : List MapShape) (name : Arg → Given) (type : Arg → List ℕ) (at : Arg → Option ElemTy) (e : ElemTy) (o : StepOp) → ArgsSmall name type at → AreNamed al (op_maps o) → op_fits at e o ≡ true → IsPrintableOp e o → IsSmallStep al name type e o
 step_small al name type at e (ops.Const v) k n h p = h
 step_small al name type at e (ops.Index j) k n h p = omega arith
 step_small al name type at e (ops.Captured j) k n h p = absurd p
 step_small al name type at e (ops.Linear c ts) k n h p =
     let q = and_parts (is_elem e Index && is_in_range c) (list_all (term_fits at) ts) h in
-    (p, (subst (λ o. AreNamed al (listed o)) (has_step_map c ts p) n).0, terms_small name type at ts k q.1)
+    (n.0, terms_small name type at ts k q.1)
 step_small al name type at e (ops.Binary op x y) k n h p =
     let q = and_parts (has_type (at x) e) (has_type (at y) e) h in
     (k.small x e (found_type (at x) e q.0), k.small y e (found_type (at y) e q.1))
@@ -333,7 +329,7 @@ steps_small : (al : List MapShape) (a r : ℕ) (ins : List ElemTy) (out : ElemTy
     → AreNamed al (steps_maps ss) → steps_fit ins out ss earlier ≡ true → AllByRecursion IsPrintableStep ss → StepsSmall al (local_name a (length ins) r) (types_of ins out all) k ss × AllByRecursion (λ t. IsSmallElem t.ty) (earlier ++ ss)
 steps_small al a r ins out all [] earlier k ends e sa sr si so se named h s = (tt, subst (λ (xs : List PayloadStep). AllByRecursion (λ t. IsSmallElem t.ty) xs) (sym (append-nil earlier)) se)
 steps_small al a r ins out all (x ∷ ss) earlier k ends e sa sr si so se named h s =
-    let names = all_split (λ m. IsName Alias (alias_of al m)) (listed (step_map x.op)) (steps_maps ss) named in
+    let names = all_split (λ m. IsName Alias (alias_of al m)) (op_maps x.op) (steps_maps ss) named in
     let p = and_parts (op_fits (arg_type ins out earlier) x.ty x.op) (steps_fit ins out ss (earlier ++ x ∷ [])) h in
     let args : ArgsSmall (local_name a (length ins) r) (types_of ins out all) (arg_type ins out earlier) = record {
       small = λ y t q. (arg_small a r ins out earlier sa (omega arith) si so se y t q).0;

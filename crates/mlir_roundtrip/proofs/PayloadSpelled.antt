@@ -1,5 +1,5 @@
 -- A payload's tree is spelled by its pieces.
-use Rattle.std.proofs.Common.{ℕ, ◌+◌, ℤ, pos, negsuc, Bool, true, false, List, [], ◌∷◌, map, length, None, refl, sym, subst, ◌∙◌, codes}
+use Rattle.std.proofs.Common.{ℕ, ◌+◌, ℤ, pos, negsuc, Bool, true, false, List, [], ◌∷◌, map, length, None, refl, ◌∙◌, codes}
 use Rattle.std.specs.List.{AllByRecursion}
 use Rattle.std.proofs.lemmas.List.{append-nil}
 use Rattle.payload_ops.specs.declared.kinds.ElemTy.{ElemTy}
@@ -34,12 +34,11 @@ use Rattle.mlir_syntax.specs.Payloads as payload_grammar
 use Rattle.mlir_print.specs.declared.names.Given.{Given}
 use Rattle.mlir_print.specs.Names.{local_name}
 use Rattle.mlir_print.specs.Maps.{linear_map}
-use Rattle.mlir_print.proofs.LinearMaps.{has_step_map}
 use Rattle.text_format.specs.Writers.{Writer, keep, made}
-use Rattle.mlir_resolve.specs.declared.words.Cast.{Cast}
-use Rattle.mlir_resolve.specs.declared.words.Cast.TheVariants as changes
+use Rattle.mlir_scope.specs.declared.words.Cast.{Cast}
+use Rattle.mlir_scope.specs.declared.words.Cast.TheVariants as changes
 use Rattle.mlir_print.specs.Literals.{number_at, literal_if, literal_at}
-use Rattle.mlir_print.specs.Payloads.{block_arg_at, next_arg_at, next_args_at, block_args_at, type_in, constant_at, binary_at, compare_at, select_at, conversion_at, cast_at, index_cast_at, index_at, apply_operand_at, apply_at, linear_if, operation_at as step_operation_at, step_at, steps_at, region_at, new_line}
+use Rattle.mlir_print.specs.Payloads.{block_arg_at, next_arg_at, next_args_at, block_args_at, type_in, constant_at, binary_at, compare_at, select_at, conversion_at, cast_at, index_cast_at, index_at, apply_operand_at, apply_at, operation_at as step_operation_at, step_at, steps_at, region_at, new_line}
 use Rattle.text_format.specs.Pieces as P
 use Rattle.text_format.specs.Formats.{Format}
 use Rattle.text_format.specs.Ends.{with_last}
@@ -175,7 +174,7 @@ step_operation-w : (al : List MapShape) (name : Arg → Given) (type : Arg → L
 step_operation-w al name type e (ops.Const v) h = as_constant-w (constant-w e v)
 step_operation-w al name type e (ops.Index k) h = as_index-w (index-w k)
 step_operation-w al name type e (ops.Captured k) h = absurd h
-step_operation-w al name type e (ops.Linear c ts) h = subst (λ o. WritesStep (linear_if al name o ts)) (sym (has_step_map c ts h)) (as_apply-w (apply-w al name (linear_map c ts) ts))
+step_operation-w al name type e (ops.Linear c ts) h = as_apply-w (apply-w al name (linear_map c ts) ts)
 step_operation-w al name type e (ops.Binary op x y) h = as_binary-w (binary-w name op x y e)
 step_operation-w al name type e (ops.Compare k x y) h = as_compare-w (compare-w name type k x y)
 step_operation-w al name type e (ops.Select c x y) h = as_select-w (select-w name c x y e)

@@ -14,8 +14,8 @@ use Rattle.text_format.specs.Types.{extents_of, extents_in, extent_before, no_ex
 use Rattle.mlir_lex.specs.declared.fault.Fault.{Fault}
 use Rattle.mlir_lex.specs.declared.fault.Fault.TheVariants.{Limit}
 use Rattle.mlir_lex.specs.Chain.{and_then, demand, each}
-use Rattle.mlir_resolve.specs.Types.{type_at, extent_at, elements, shape_type}
-use Rattle.mlir_resolve.proofs.Keeps.{then_ok}
+use Rattle.mlir_scope.specs.Types.{type_at, extent_at, elements, shape_type}
+use Rattle.mlir_scope.proofs.Keeps.{then_ok}
 use Rattle.mlir_roundtrip.specs.Printable.{AreKept, IsTensorType}
 
 -- ---- answers

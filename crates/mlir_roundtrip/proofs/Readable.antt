@@ -17,7 +17,7 @@ use Rattle.mlir_ir.specs.declared.tree.Ty.TheVariants.{Tensor}
 use Rattle.mlir_ir.specs.declared.tree.Extent.{Extent}
 use Rattle.mlir_ir.specs.declared.tree.Extent.TheVariants.{Fixed, Any}
 use Rattle.mlir_lex.specs.Chain.{each}
-use Rattle.mlir_resolve.specs.Types.{extent_at, counted, elements, shape_type, are_extents, is_shape, elem_of}
+use Rattle.mlir_scope.specs.Types.{extent_at, counted, elements, shape_type, are_extents, is_shape, elem_of}
 use Rattle.mlir_print.specs.Types.{ty_text, elem_text, extents_text}
 use Rattle.mlir_roundtrip.specs.Printable.{AreKept, IsKeptTensor, IsTensorType}
 

@@ -24,25 +24,24 @@ use Rattle.text_format.specs.Token.{TokenShape}
 use Rattle.mlir_syntax.specs.declared.tree.payloads.NextArg.{NextArg}
 use Rattle.mlir_syntax.specs.declared.tree.steps.ApplyOperand.{ApplyOperand}
 use Rattle.mlir_syntax.specs.declared.tree.payloads.Step.{Step}
-use Rattle.mlir_resolve.specs.declared.names.Meaning.TheVariants.{Local}
+use Rattle.mlir_scope.specs.declared.names.Meaning.TheVariants.{Local}
 use Rattle.mlir_lex.specs.Chain.{and_then, thread}
-use Rattle.mlir_resolve.specs.Names.{Entry, entry, find}
-use Rattle.mlir_resolve.specs.declared.names.Inside.{Inside}
+use Rattle.mlir_scope.specs.Names.{Entry, entry, find}
+use Rattle.mlir_payload.specs.declared.inside.Inside.{Inside}
 use Rattle.mlir_lex.specs.declared.fault.Fault.{Fault}
-use Rattle.mlir_resolve.specs.declared.words.Cast.{Cast}
-use Rattle.mlir_resolve.specs.declared.words.Cast.TheVariants as changes
-use Rattle.mlir_resolve.specs.Words.{binary_text, predicate_text, cast_text, named_binary, named_predicate, named_cast}
-use Rattle.mlir_resolve.specs.Steps.{is_integer, with_step, index_argument, term_on, apply_of, operation_of, step_of, stop_behind, steps_of}
-use Rattle.mlir_resolve.specs.Maps.{AliasShape}
-use Rattle.mlir_resolve.specs.Payload.{locals_of, arg_of, more_args, block_args, payload_of}
+use Rattle.mlir_scope.specs.declared.words.Cast.{Cast}
+use Rattle.mlir_scope.specs.declared.words.Cast.TheVariants as changes
+use Rattle.mlir_scope.specs.Words.{binary_text, predicate_text, cast_text, named_binary, named_predicate, named_cast}
+use Rattle.mlir_payload.specs.Steps.{is_integer, with_step, index_argument, term_on, apply_of, operation_of, step_of, stop_behind, steps_of}
+use Rattle.mlir_scope.specs.Maps.{AliasShape}
+use Rattle.mlir_payload.specs.Payload.{locals_of, arg_of, more_args, block_args, payload_of}
 use Rattle.mlir_print.specs.declared.names.Given.{Given}
 use Rattle.mlir_print.specs.Types.{elem_text}
 use Rattle.mlir_print.specs.Names.{given_text, local_name}
-use Rattle.mlir_print.specs.Maps.{linear_terms, linear_map, step_map, listed, steps_maps}
-use Rattle.mlir_print.proofs.LinearMaps.{has_step_map}
+use Rattle.mlir_print.specs.Maps.{linear_terms, linear_map, op_maps, steps_maps}
 use Rattle.text_format.specs.Writers.{Writer, each_of, commas, after_comma}
-use Rattle.mlir_print.specs.Payloads.{next_args_at, block_args_at, elem_or, type_in, apply_operand_at, apply_at, linear_if, operation_at, step_at, steps_at, region_at}
-use Rattle.mlir_resolve.specs.Literals.{is_written}
+use Rattle.mlir_print.specs.Payloads.{next_args_at, block_args_at, elem_or, type_in, apply_operand_at, apply_at, operation_at, step_at, steps_at, region_at}
+use Rattle.mlir_scope.specs.Literals.{is_written}
 use Rattle.mlir_roundtrip.specs.Printable.{IsPrintableOp, IsPrintableStep}
 use Rattle.mlir_roundtrip.proofs.Aliases.{MapRead}
 use Rattle.mlir_roundtrip.proofs.Numbers.{Good, elem_good, good_read, decimal_value, literal_read}
@@ -317,7 +316,7 @@ apply_goes alias al outer names steps name type at c ts place k m h =
     let count : (length ts == length ((apply_at al name (linear_map c ts) ts).tree place).operands + 0) ≡ true = eq-eqb (length ts) (length ((apply_at al name (linear_map c ts) ts).tree place).operands + 0) (omega (arith, len)) in
     rw (m.1, count, operands_go outer names steps name type at ts _ k h laid, append-nil (map (λ t. t.0) ts), terms_back [] ts) refl
 
-operation_goes : (alias : List AliasShape) (al : List MapShape) (outer names : List Entry) (steps : List PayloadStep) (name : Arg → Given) (type : Arg → List ℕ) (at : Arg → Option ElemTy) (e : ElemTy) (o : StepOp) (place : ℕ) → ArgsHeld name type names at → AllByRecursion (MapRead alias al) (listed (step_map o)) → op_fits at e o ≡ true → is_written e ≡ true → IsPrintableOp e o
+operation_goes : (alias : List AliasShape) (al : List MapShape) (outer names : List Entry) (steps : List PayloadStep) (name : Arg → Given) (type : Arg → List ℕ) (at : Arg → Option ElemTy) (e : ElemTy) (o : StepOp) (place : ℕ) → ArgsHeld name type names at → AllByRecursion (MapRead alias al) (op_maps o) → op_fits at e o ≡ true → is_written e ≡ true → IsPrintableOp e o
     → operation_of alias outer None (inside names steps) ((operation_at al name type e o).tree place) ≡ Ok (inside names steps, record { ty = e; op = o })
 operation_goes alias al outer names steps name type at e (ops.Const v) place k m h t p = rw (literal_read e v _ t h p) refl
 operation_goes alias al outer names steps name type at e (ops.Index j) place k m h t p =
@@ -329,9 +328,7 @@ operation_goes alias al outer names steps name type at e (ops.Captured j) place 
 operation_goes alias al outer names steps name type at e (ops.Linear c ts) place k m h t p =
     let q = and_parts (is_elem e Index && is_in_range c) (list_all (term_fits at) ts) h in
     let index : e ≡ Index = same_elem e Index (and_parts (is_elem e Index) (is_in_range c) q.0).0 in
-    let read = subst (λ o. AllByRecursion (MapRead alias al) (listed o)) (has_step_map c ts p) m in
-    subst (λ o. operation_of alias outer None (inside names steps) ((linear_if al name o ts).tree place) ≡ Ok (inside names steps, record { ty = e; op = ops.Linear c ts })) (sym (has_step_map c ts p))
-    (apply_goes alias al outer names steps name type at c ts place k read.0 q.1 ∙ ap (λ u. Ok (inside names steps, record { ty = u; op = ops.Linear c ts })) (sym index))
+    apply_goes alias al outer names steps name type at c ts place k m.0 q.1 ∙ ap (λ u. Ok (inside names steps, record { ty = u; op = ops.Linear c ts })) (sym index)
 operation_goes alias al outer names steps name type at e (ops.Binary op x y) place k m h t p =
     let q = and_parts (has_type (at x) e) (has_type (at y) e) h in
     let a = k x e (found_type (at x) e q.0) in
@@ -393,7 +390,7 @@ steps_go alias al a n r b k c ins out all [] earlier outer env [] ends ce ke sb 
 steps_go alias al a n r b k c ins out all [] earlier outer env (x ∷ xs) ends ce ke sb sc le away canon h f s m l = absurd l
 steps_go alias al a n r b k c ins out all (t ∷ ss) earlier outer env [] ends ce ke sb sc le away canon h f s m l = absurd l
 steps_go alias al a n r b k c ins out all (t ∷ ss) earlier outer env (x ∷ xs) ends ce ke sb sc le away canon h f s m l =
-    let maps = all_split (MapRead alias al) (listed (step_map t.op)) (steps_maps ss) m in
+    let maps = all_split (MapRead alias al) (op_maps t.op) (steps_maps ss) m in
     let small : Small b c = record { args = sb; results = omega arith } in
     let e : result_name (r + k) ≡ result_name c = ap result_name (sym ce) in
     let none : find env (result_name (r + k)) ≡ None = ap (find env) e ∙ fresh_result b c env small canon in

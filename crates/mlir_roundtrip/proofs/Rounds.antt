@@ -19,22 +19,22 @@ use Rattle.mlir_syntax.specs.declared.tree.generics.IteratorType.{IteratorType}
 use Rattle.mlir_syntax.specs.declared.tree.generics.NextInput.{NextInput}
 use Rattle.mlir_syntax.specs.declared.tree.generics.NextType.{NextType}
 use Rattle.mlir_syntax.specs.declared.tree.generics.Generic.{Generic}
-use Rattle.mlir_resolve.specs.declared.names.Meaning.{Meaning}
-use Rattle.mlir_resolve.specs.declared.names.Scope.{Scope}
+use Rattle.mlir_scope.specs.declared.names.Meaning.{Meaning}
+use Rattle.mlir_scope.specs.declared.names.Scope.{Scope}
 use Rattle.mlir_lex.specs.declared.fault.Fault.{Fault}
-use Rattle.mlir_resolve.specs.Names.{Entry, entry, find}
+use Rattle.mlir_scope.specs.Names.{Entry, entry, find}
 use Rattle.mlir_lex.specs.Chain.{and_then, each}
-use Rattle.mlir_resolve.specs.Types.{type_at, elem_of}
-use Rattle.mlir_resolve.specs.Scope.{held, value, typed_as, value_id, type_of}
-use Rattle.mlir_resolve.specs.Payload.{payload_of}
+use Rattle.mlir_scope.specs.Types.{type_at, elem_of}
+use Rattle.mlir_scope.specs.Scope.{held, value, typed_as, value_id, type_of, operand_of}
+use Rattle.mlir_payload.specs.Payload.{payload_of}
 use Rattle.mlir_resolve.specs.Constants.{result_meaning}
-use Rattle.mlir_resolve.specs.Maps.{AliasShape, map_of}
-use Rattle.mlir_resolve.specs.Generics.{iterator_of, iterators_from, operand_of, more_inputs, more_types, typed_inputs, typed_output, operands_of, generic_of}
+use Rattle.mlir_scope.specs.Maps.{AliasShape, map_of}
+use Rattle.mlir_resolve.specs.Generics.{iterator_of, iterators_from, more_inputs, more_types, typed_inputs, typed_output, operands_of, generic_of}
 use Rattle.mlir_resolve.specs.Structured.{axis_of, typed_id, output_of, factors_of, moved_of}
 use Rattle.mlir_resolve.specs.Operations.{kind_of, statement_of}
 use Rattle.mlir_print.specs.declared.names.Given.TheVariants.{Result}
 use Rattle.mlir_print.specs.Names.{Names, Row, look, spot, given_text, name_in, name_or, type_in, type_or, row_of}
-use Rattle.text_format.specs.Writers.{Writer, commas}
+use Rattle.text_format.specs.Writers.{commas}
 use Rattle.mlir_print.specs.Maps.{use_at, steps_maps, maps_used}
 use Rattle.mlir_print.specs.Generics.{iterator_at, next_input_at, next_type_at, inputs_at, output_at, operands_at, generic_at}
 use Rattle.mlir_print.specs.Structured.{fill_at, factors_at, moved_at, axis_at, transpose_at, broadcast_at}

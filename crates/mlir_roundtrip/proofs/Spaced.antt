@@ -21,7 +21,7 @@ use Rattle.text_format.specs.declared.lexeme.Lexeme.TheVariants as lexemes
 use Rattle.text_format.specs.Lexemes.{lexeme_kind, lexeme_text}
 use Rattle.text_format.specs.Pieces.{Piece, Gap, Fixed, Leaf}
 use Rattle.text_format.proofs.Spacing.{IsName, IsApart, result_name, decimal_name, lexeme_name, none_apart, none_opens, space, fixed_closed, fixed_word, leaf_name, leaf_closed, append_apart, append_opens, space_opens, fixed_opens, quoted_closed, is_minus}
-use Rattle.mlir_resolve.specs.Types.{elem_of}
+use Rattle.mlir_scope.specs.Types.{elem_of}
 use Rattle.mlir_print.specs.declared.names.Given.TheVariants.{Result}
 use Rattle.mlir_print.specs.Types.{ty_text}
 use Rattle.mlir_print.specs.Names.{Names, Row, row_of}

@@ -1,8 +1,7 @@
 -- The steps of a payload that are read are printable.
-use Rattle.std.proofs.Common.{◌≡◌, ◌≤◌, subst, ℕ, ◌+◌, suc, true, ◌&&◌, ◌<◌, ◌^◌, ℤ, List, [], ◌∷◌, ◌++◌, length, length-append, Option, Some, None, Result as Answer, Ok, refl, ap, arith, nat_lt, nat_le}
+use Rattle.std.proofs.Common.{◌≡◌, ◌≤◌, subst, ℕ, ◌+◌, suc, true, ◌&&◌, List, [], ◌∷◌, ◌++◌, length, length-append, Option, Some, None, Result as Answer, Ok, refl, arith, nat_lt, nat_le}
 use Rattle.std.specs.List.{AllByRecursion}
 use Rattle.std.proofs.lemmas.Bool.{and_parts, ltb-true, leb-true}
-use Rattle.std.proofs.lemmas.List.{length-map}
 use Rattle.payload_ops.specs.declared.kinds.ElemTy.{ElemTy}
 use Rattle.payload_ops.specs.declared.kinds.ElemTy.TheVariants.{Int, Index}
 use Rattle.payload_ops.specs.declared.step.Arg.{Arg}
@@ -10,9 +9,6 @@ use Rattle.payload_ops.specs.declared.step.Arg.TheVariants as args
 use Rattle.payload_ops.specs.declared.step.StepOp.TheVariants as ops
 use Rattle.payload_ops.specs.declared.step.PayloadStep.{PayloadStep}
 use Rattle.payload_ops.specs.Payload.{is_elem, is_value, is_cast}
-use Rattle.payload_ops.specs.Numbers.{is_coefficient}
-use Rattle.affine_maps.specs.Map.{terms_fit}
-use Rattle.affine_maps.specs.declared.map.Expr.{Expr}
 use Rattle.mlir_ir.specs.declared.tree.Which.TheVariants as limits
 use Rattle.text_format.specs.Token.{TokenShape}
 use Rattle.text_format.specs.Types.{element_of}
@@ -25,30 +21,26 @@ use Rattle.mlir_syntax.specs.declared.tree.payloads.Step.{Step}
 use Rattle.mlir_syntax.specs.declared.tree.payloads.Region.{Region}
 use Rattle.mlir_lex.specs.declared.fault.Fault.{Fault}
 use Rattle.mlir_lex.specs.declared.fault.Fault.TheVariants.{Limit, TypeDiffers, Number}
-use Rattle.mlir_resolve.specs.declared.names.Meaning.{Meaning}
-use Rattle.mlir_resolve.specs.declared.names.Meaning.TheVariants.{Held, Constant, Local}
-use Rattle.mlir_resolve.specs.declared.names.Inside.{Inside}
-use Rattle.mlir_resolve.specs.declared.words.Cast.{Cast}
-use Rattle.mlir_resolve.specs.declared.words.Cast.TheVariants as changes
-use Rattle.mlir_resolve.specs.Names.{Entry, find}
+use Rattle.mlir_scope.specs.declared.names.Meaning.{Meaning}
+use Rattle.mlir_scope.specs.declared.names.Meaning.TheVariants.{Held, Constant, Local}
+use Rattle.mlir_payload.specs.declared.inside.Inside.{Inside}
+use Rattle.mlir_scope.specs.declared.words.Cast.{Cast}
+use Rattle.mlir_scope.specs.declared.words.Cast.TheVariants as changes
+use Rattle.mlir_scope.specs.Names.{Entry, find}
 use Rattle.mlir_lex.specs.Chain.{demand, thread}
-use Rattle.mlir_resolve.specs.Maps.{AliasShape, map_with_symbols, use_start}
-use Rattle.mlir_resolve.specs.Types.{same_elem}
-use Rattle.mlir_resolve.specs.Literals.{digits_value, elem_at, literal_of, is_near, is_written}
-use Rattle.mlir_resolve.specs.Words.{named_binary, named_predicate, named_cast}
-use Rattle.mlir_resolve.specs.Scope.{IsHeld, IsOuter}
-use Rattle.mlir_resolve.specs.Steps.{fresh_in, with_step, constant_step, brought, argument_by, argument, named, converted, is_integer, changes_width, cast_op, symbol_operands, fits_operands, only, one_result, fault_of_map, fault_at_stop, index_argument, apply_arguments, term_on, linear, apply_of, operation_of as step_operation_of, name_in, room as step_room, step_of, stop_behind, steps_of}
-use Rattle.mlir_resolve.specs.Payload.{locals_of, block_args, stop_before_yield, parts_of}
-use Rattle.mlir_resolve.proofs.Applied.{apply_counted, not_told, applied_fits, terms_are}
-use Rattle.mlir_resolve.proofs.MapsFit.{used_is_map}
-use Rattle.mlir_resolve.proofs.Keeps.{then_ok}
-use Rattle.mlir_resolve.proofs.Fitting.{found_held}
-use Rattle.mlir_resolve.proofs.Ranges.{element_written, elem_written, literal_is}
+use Rattle.mlir_scope.specs.Maps.{AliasShape, map_with_symbols, use_start, AreMaps}
+use Rattle.mlir_scope.specs.Types.{same_elem}
+use Rattle.mlir_scope.specs.Literals.{digits_value, elem_at, literal_of, is_near, is_written}
+use Rattle.mlir_scope.specs.Words.{named_binary, named_predicate, named_cast}
+use Rattle.mlir_scope.specs.Scope.{IsHeld, IsOuter}
+use Rattle.mlir_payload.specs.Steps.{fresh_in, with_step, constant_step, brought, argument_by, argument, named, converted, is_integer, changes_width, cast_op, symbol_operands, fits_operands, only, one_result, stop_of, fault_of_map, fault_at_stop, index_argument, apply_arguments, linear, apply_of, operation_of as step_operation_of, name_in, room as step_room, step_of, stop_behind, steps_of}
+use Rattle.mlir_payload.specs.Payload.{locals_of, block_args, stop_before_yield, parts_of}
+use Rattle.mlir_scope.proofs.Keeps.{then_ok}
+use Rattle.mlir_payload.proofs.Fitting.{found_held}
+use Rattle.mlir_scope.proofs.Ranges.{element_written, elem_written, literal_is}
 use Rattle.mlir_roundtrip.proofs.Fits.{found_type}
 use Rattle.mlir_roundtrip.proofs.Regions.{all_last}
 use Rattle.mlir_roundtrip.specs.Printable.{IsPrintableOp, IsPrintableStep}
-use Rattle.mlir_roundtrip.proofs.MapUses.{AreUsable, usable_maps}
-use Rattle.mlir_roundtrip.proofs.Short.{IsShortApply, IsShortStepOperation, IsShortStep}
 use Rattle.mlir_roundtrip.proofs.ReadTypes.{ok_same, demanded}
 
 -- the steps so far are printable, and with `more` of them within the limit
@@ -125,41 +117,21 @@ arguments_read outer s a r w h g =
     let y = then_ok (thread (index_argument outer) x.0.0 (symbol_operands a.symbols)) _ r x.2 in
     subst (λ (z : Inside × List Arg). StepsRead 1 z.0) (ok_same (y.0.0, x.0.1 ++ y.0.1) r y.2) (thread_read outer x.0.0 (symbol_operands a.symbols) y.0 w (thread_read outer s a.operands x.0 w h x.1) y.1)
 
--- an expression has at most one term for each dimension
-terms_few : (dims : ℕ) (ts : List (ℕ × ℤ)) (low : ℕ) → low ≤ dims → terms_fit dims ts low ≡ true → low + length ts ≤ dims
-terms_few dims [] low le h = omega arith
-terms_few dims (t ∷ ts) low le h =
-    let p = and_parts (nat_le low t.0 && nat_lt t.0 dims && is_coefficient t.1) (terms_fit dims ts (t.0 + 1)) h in
-    let q = and_parts (nat_le low t.0 && nat_lt t.0 dims) (is_coefficient t.1) p.0 in
-    let u = and_parts (nat_le low t.0) (nat_lt t.0 dims) q.0 in
-    let a = leb-true low t.0 u.0 in
-    let b = ltb-true t.0 dims u.1 in
-    let more = terms_few dims ts (t.0 + 1) (omega arith) p.1 in
-    omega (arith, a, more)
-
-result_there : (at : ℕ) (o : Option Expr) (e : Expr) → one_result at o ≡ Ok e → o ≡ Some e
-result_there at None e h = absurd (cc h)
-result_there at (Some x) e h = ap (λ y. Some y) (ok_same x e h)
-
-apply_read : (alias : List AliasShape) (outer : List Entry) (stop : Option ℕ) (s : Inside) (a : ApplyStep) (r : Inside × PayloadStep) → IsOuter outer → AreUsable alias → IsShortApply a → StepsRead 1 s → apply_of alias outer stop s a ≡ Ok r → StepRead r
-apply_read alias outer stop s a r w usable short h g =
+apply_read : (alias : List AliasShape) (outer : List Entry) (stop : Option ℕ) (s : Inside) (a : ApplyStep) (r : Inside × PayloadStep) → IsOuter outer → AreMaps alias → StepsRead 1 s → apply_of alias outer stop s a ≡ Ok r → StepRead r
+apply_read alias outer stop s a r w usable h g =
     let m = then_ok (map_with_symbols alias a.map) _ r g in
     let e = then_ok (one_result (use_start a.map) (only m.0.results)) _ r m.2 in
-    let f = then_ok (fault_of_map stop (fits_operands m.0 a) (use_start a.map)) _ r e.2 in
+    let f = then_ok (fault_of_map (stop_of a.symbols stop) (fits_operands m.0 a) (use_start a.map)) _ r e.2 in
     let x = then_ok (apply_arguments outer s a) _ r f.2 in
-    let u = then_ok (fault_at_stop stop (fits_operands m.0 a)) _ r x.2 in
-    let fits = not_told stop (fits_operands m.0 a) (use_start a.map) f.0 u.0 f.1 u.1 in
-    let count = apply_counted outer s a x.0 x.1 in
-    let over = applied_fits m.0 e.0 a x.0.1 (used_is_map alias a.map m.0 (usable_maps alias usable) m.1) (result_there (use_start a.map) (only m.0.results) e.0 e.1) fits count in
-    let few = terms_few (length x.0.1) e.0.terms 0 (omega arith) (terms_are (length x.0.1) e.0 over).1 in
-    step_read x.0.0 (linear e.0 x.0.1) r u.2 (arguments_read outer s a x.0 w h x.1) (record { ty = refl; op = omega (arith, few, count, short, length-map e.0.terms (term_on x.0.1)) })
+    let u = then_ok (fault_at_stop (stop_of a.symbols stop) (fits_operands m.0 a)) _ r x.2 in
+    step_read x.0.0 (linear e.0 x.0.1) r u.2 (arguments_read outer s a x.0 w h x.1) (record { ty = refl; op = tt })
 
-step_operation_read : (alias : List AliasShape) (outer : List Entry) (stop : Option ℕ) (s : Inside) (o : StepOperation) (r : Inside × PayloadStep) → IsOuter outer → AreUsable alias → IsShortStepOperation o → StepsRead 1 s → step_operation_of alias outer stop s o ≡ Ok r → StepRead r
-step_operation_read alias outer stop s (step_operations.Constant c) r w usable short h g =
+step_operation_read : (alias : List AliasShape) (outer : List Entry) (stop : Option ℕ) (s : Inside) (o : StepOperation) (r : Inside × PayloadStep) → IsOuter outer → AreMaps alias → StepsRead 1 s → step_operation_of alias outer stop s o ≡ Ok r → StepRead r
+step_operation_read alias outer stop s (step_operations.Constant c) r w usable h g =
     let x = then_ok (literal_of c.literal) _ r g in
     let p = and_parts (is_written x.0.0 && is_value x.0.0 x.0.1) (is_near x.0.0 x.0.1) (literal_is c.literal x.0 x.1) in
     step_read s (constant_step x.0.0 x.0.1) r x.2 h (record { ty = (and_parts (is_written x.0.0) (is_value x.0.0 x.0.1) p.0).0; op = p.1 })
-step_operation_read alias outer stop s (step_operations.Binary b) r w usable short h g =
+step_operation_read alias outer stop s (step_operations.Binary b) r w usable h g =
     let op = then_ok (named b.name.start (named_binary b.name.text)) _ r g in
     let x = then_ok (argument outer 1 s b.left) _ r op.2 in
     let y = then_ok (argument outer 1 x.0.0 b.right) _ r x.2 in
@@ -167,14 +139,14 @@ step_operation_read alias outer stop s (step_operations.Binary b) r w usable sho
     let v = then_ok (same_elem y.0.1.1 b.ty) _ r u.2 in
     step_read y.0.0 (record { ty = x.0.1.1; op = ops.Binary op.0 x.0.1.0 y.0.1.0 }) r v.2 (argument_read outer 1 x.0.0 b.right y.0 w (argument_read outer 1 s b.left x.0 w h x.1) y.1)
     (record { ty = written_type x.0.1.1 b.ty u.0 u.1; op = tt })
-step_operation_read alias outer stop s (step_operations.Compare c) r w usable short h g =
+step_operation_read alias outer stop s (step_operations.Compare c) r w usable h g =
     let p = then_ok (named c.predicate.start (named_predicate c.predicate.text)) _ r g in
     let x = then_ok (argument outer 1 s c.left) _ r p.2 in
     let y = then_ok (argument outer 1 x.0.0 c.right) _ r x.2 in
     let u = then_ok (same_elem x.0.1.1 c.ty) _ r y.2 in
     let v = then_ok (same_elem y.0.1.1 c.ty) _ r u.2 in
     step_read y.0.0 (record { ty = Int 1; op = ops.Compare p.0 x.0.1.0 y.0.1.0 }) r v.2 (argument_read outer 1 x.0.0 c.right y.0 w (argument_read outer 1 s c.left x.0 w h x.1) y.1) (record { ty = refl; op = tt })
-step_operation_read alias outer stop s (step_operations.Select c) r w usable short h g =
+step_operation_read alias outer stop s (step_operations.Select c) r w usable h g =
     let b = then_ok (argument outer 1 s c.condition) _ r g in
     let x = then_ok (argument outer 1 b.0.0 c.chosen) _ r b.2 in
     let y = then_ok (argument outer 1 x.0.0 c.other) _ r x.2 in
@@ -184,16 +156,16 @@ step_operation_read alias outer stop s (step_operations.Select c) r w usable sho
     step_read y.0.0 (record { ty = x.0.1.1; op = ops.Select b.0.1.0 x.0.1.0 y.0.1.0 }) r z.2
     (argument_read outer 1 x.0.0 c.other y.0 w (argument_read outer 1 b.0.0 c.chosen x.0 w (argument_read outer 1 s c.condition b.0 w h b.1) x.1) y.1)
     (record { ty = written_type x.0.1.1 c.ty u.0 u.1; op = tt })
-step_operation_read alias outer stop s (step_operations.IndexCast c) r w usable short h g =
+step_operation_read alias outer stop s (step_operations.IndexCast c) r w usable h g =
     let x = then_ok (converted outer s c.conversion) _ r g in
     let to = then_ok (elem_at c.conversion.to) _ r x.2 in
     let d = then_ok (demand (is_cast (Some x.0.1.1) to.0) (TypeDiffers c.conversion.to.start)) _ r to.2 in
     step_read x.0.0 (record { ty = to.0; op = ops.IndexCast x.0.1.0 }) r d.2 (converted_read outer s c.conversion x.0 w h x.1) (record { ty = elem_written c.conversion.to to.0 to.1; op = tt })
-step_operation_read alias outer stop s (step_operations.Index i) r w usable short h g =
+step_operation_read alias outer stop s (step_operations.Index i) r w usable h g =
     let d = then_ok (demand (nat_le (digits_value i.dimension.text) 1048576) (Number i.dimension.start i.dimension.start)) _ r g in
     step_read s (record { ty = Index; op = ops.Index (digits_value i.dimension.text) }) r d.2 h (record { ty = refl; op = leb-true _ _ (demanded _ _ d.0 d.1) })
-step_operation_read alias outer stop s (step_operations.Apply a) r w usable short h g = apply_read alias outer stop s a r w usable short h g
-step_operation_read alias outer stop s (step_operations.Cast c) r w usable short h g =
+step_operation_read alias outer stop s (step_operations.Apply a) r w usable h g = apply_read alias outer stop s a r w usable h g
+step_operation_read alias outer stop s (step_operations.Cast c) r w usable h g =
     let n = then_ok (named c.name.start (named_cast c.name.text)) _ r g in
     let x = then_ok (converted outer s c.conversion) _ r n.2 in
     let i = then_ok (demand (is_integer x.0.1.1) (TypeDiffers c.conversion.from.start)) _ r x.2 in
@@ -201,25 +173,25 @@ step_operation_read alias outer stop s (step_operations.Cast c) r w usable short
     let d = then_ok (demand (changes_width n.0 x.0.1.1 to.0) (TypeDiffers c.conversion.to.start)) _ r to.2 in
     step_read x.0.0 (record { ty = to.0; op = cast_op n.0 x.0.1.0 }) r d.2 (converted_read outer s c.conversion x.0 w h x.1) (record { ty = elem_written c.conversion.to to.0 to.1; op = cast_printable n.0 to.0 x.0.1.0 })
 
-steps_read : (alias : List AliasShape) (outer : List Entry) (stop : Option ℕ) (s : Inside) (ts : List Step) (y : Inside) → IsOuter outer → AreUsable alias → AllByRecursion IsShortStep ts → StepsRead 0 s → steps_of alias outer stop s ts ≡ Ok y → StepsRead 0 y
-steps_read alias outer stop s [] y o usable short h g = subst (λ x. StepsRead 0 x) (ok_same s y g) h
-steps_read alias outer stop s (t ∷ ts) y o usable short h g =
+steps_read : (alias : List AliasShape) (outer : List Entry) (stop : Option ℕ) (s : Inside) (ts : List Step) (y : Inside) → IsOuter outer → AreMaps alias → StepsRead 0 s → steps_of alias outer stop s ts ≡ Ok y → StepsRead 0 y
+steps_read alias outer stop s [] y o usable h g = subst (λ x. StepsRead 0 x) (ok_same s y g) h
+steps_read alias outer stop s (t ∷ ts) y o usable h g =
     let n = then_ok (step_of alias outer (stop_behind stop ts) s t) _ y g in
     let f = then_ok (fresh_in outer s.names t.result) _ n.0 n.1 in
     let d = then_ok (step_room s (name_in t.operation)) _ n.0 f.2 in
     let p = then_ok (step_operation_of alias outer (stop_behind stop ts) s t.operation) _ n.0 d.2 in
     let lt = ltb-true (length s.steps) 1024 (demanded _ _ d.0 d.1) in
-    let k = step_operation_read alias outer (stop_behind stop ts) s t.operation p.0 o usable short.0 (record { printable = h.printable; few = omega arith }) p.1 in
-    steps_read alias outer stop n.0 ts y o usable short.1 (subst (λ x. StepsRead 0 x) (ok_same (with_step p.0.0 t.result.text p.0.1) n.0 p.2) (with_read 0 p.0.0 t.result.text p.0.1 k.before k.step)) n.2
+    let k = step_operation_read alias outer (stop_behind stop ts) s t.operation p.0 o usable (record { printable = h.printable; few = omega arith }) p.1 in
+    steps_read alias outer stop n.0 ts y o usable (subst (λ x. StepsRead 0 x) (ok_same (with_step p.0.0 t.result.text p.0.1) n.0 p.2) (with_read 0 p.0.0 t.result.text p.0.1 k.before k.step)) n.2
 
-pub parts_are : (alias : List AliasShape) (outer : List Entry) (ins : List ElemTy) (out : ElemTy) (region : Region) (q : List PayloadStep × Arg) → IsOuter outer → AreUsable alias → AllByRecursion IsShortStep region.steps → parts_of alias outer ins out region ≡ Ok q → AllByRecursion IsPrintableStep q.0 × (length q.0 ≤ 1024)
-parts_are alias outer ins out region q o usable short h =
+pub parts_are : (alias : List AliasShape) (outer : List Entry) (ins : List ElemTy) (out : ElemTy) (region : Region) (q : List PayloadStep × Arg) → IsOuter outer → AreMaps alias → parts_of alias outer ins out region ≡ Ok q → AllByRecursion IsPrintableStep q.0 × (length q.0 ≤ 1024)
+parts_are alias outer ins out region q o usable h =
     let a = then_ok (block_args outer [] (locals_of 0 ins out) region.args) _ q h in
     let s = then_ok (steps_of alias outer (stop_before_yield region) (record { names = a.0; steps = [] }) region.steps) _ q a.2 in
     let y = then_ok (argument outer 0 s.0 region.yielded) _ q s.2 in
     let u = then_ok (same_elem y.0.1.1 region.yield_type) _ q y.2 in
     let v = then_ok (same_elem out region.yield_type) _ q u.2 in
-    let st = steps_read alias outer (stop_before_yield region) (record { names = a.0; steps = [] }) region.steps s.0 o usable short (record { printable = tt; few = omega arith }) s.1 in
+    let st = steps_read alias outer (stop_before_yield region) (record { names = a.0; steps = [] }) region.steps s.0 o usable (record { printable = tt; few = omega arith }) s.1 in
     let k = argument_read outer 0 s.0 region.yielded y.0 o st y.1 in
     let few = k.few in
     subst (λ (x : List PayloadStep × Arg). AllByRecursion IsPrintableStep x.0 × (length x.0 ≤ 1024)) (ok_same (y.0.0.steps, y.0.1.0) q v.2) (k.printable, omega arith)

@@ -12,8 +12,8 @@ use Rattle.text_format.specs.Types.{is_some, integer, width_of, element_of, insi
 use Rattle.mlir_ir.specs.declared.tree.Ty.{Ty}
 use Rattle.mlir_ir.specs.declared.tree.Ty.TheVariants.{Scalar, Tensor, Vector}
 use Rattle.mlir_lex.specs.declared.fault.Fault.TheVariants.{TypeDiffers}
-use Rattle.mlir_resolve.specs.Types.{is_shape}
-use Rattle.mlir_resolve.specs.Scope.{same_operand}
+use Rattle.mlir_scope.specs.Types.{is_shape}
+use Rattle.mlir_scope.specs.Scope.{same_operand}
 use Rattle.mlir_roundtrip.specs.Printable.{IsTensor, IsScalar}
 use Rattle.mlir_roundtrip.proofs.ReadTypes.{demanded}
 

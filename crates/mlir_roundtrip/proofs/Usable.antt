@@ -5,8 +5,8 @@ use Rattle.payload_ops.specs.declared.kinds.ElemTy.TheVariants.{Int, Index}
 use Rattle.text_format.specs.Token.{TokenShape}
 use Rattle.mlir_ir.specs.declared.tree.Ty.{Ty}
 use Rattle.mlir_ir.specs.declared.tree.Ty.TheVariants.{Scalar, Tensor, Vector}
-use Rattle.mlir_resolve.specs.Types.{elem_of}
-use Rattle.mlir_resolve.specs.Scope.{same_operand}
+use Rattle.mlir_scope.specs.Types.{elem_of}
+use Rattle.mlir_scope.specs.Scope.{same_operand}
 use Rattle.mlir_print.specs.Types.{ty_text}
 use Rattle.mlir_roundtrip.specs.Printable.{IsIntegerType, IsValueType}
 use Rattle.mlir_roundtrip.proofs.Numbers.{Good, elem_good}

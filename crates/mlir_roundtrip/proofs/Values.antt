@@ -8,10 +8,10 @@ use Rattle.mlir_ir.specs.declared.tree.Ty.TheVariants.{Scalar, Tensor, Vector}
 use Rattle.mlir_ir.specs.declared.tree.OpKind.{OpKind}
 use Rattle.mlir_ir.specs.declared.tree.OpKind.TheVariants as kinds
 use Rattle.text_format.specs.Token.{TokenShape}
-use Rattle.mlir_resolve.specs.declared.names.Meaning.{Meaning}
-use Rattle.mlir_resolve.specs.Names.{Entry, entry, find}
-use Rattle.mlir_resolve.specs.Types.{elem_of}
-use Rattle.mlir_resolve.specs.Scope.{held, value, IsHeld, IsOuter}
+use Rattle.mlir_scope.specs.declared.names.Meaning.{Meaning}
+use Rattle.mlir_scope.specs.Names.{Entry, entry, find}
+use Rattle.mlir_scope.specs.Types.{elem_of}
+use Rattle.mlir_scope.specs.Scope.{held, value, IsHeld, IsOuter}
 use Rattle.mlir_resolve.specs.Constants.{result_meaning}
 use Rattle.mlir_print.specs.declared.names.Given.{Given}
 use Rattle.mlir_print.specs.Names.{Row, look, spot, row_of}

@@ -1,5 +1,5 @@
 -- The maps that a text spells, and their aliases.
-use Rattle.std.specs.Prelude.{◌≡◌, ℕ, ◌+◌, ◌≤◌, ◌^◌, Bool, true, false, List, [], ◌∷◌}
+use Rattle.std.specs.Prelude.{◌≡◌, ℕ, ◌+◌, Bool, true, false, List, [], ◌∷◌}
 use Rattle.std.specs.List.{AllByRecursion, list_any}
 use Rattle.std.specs.Str.{bytes_eq}
 use Rattle.affine_maps.specs.Shape.{MapShape}
@@ -8,16 +8,12 @@ use Rattle.affine_text.specs.Text.{text_of_map}
 use Rattle.mlir_ir.specs.declared.tree.Op.{Op}
 use Rattle.mlir_ir.specs.Shape.{FuncShape}
 use Rattle.mlir_read.specs.declared.files.FileScope.{FileScope}
-use Rattle.mlir_resolve.specs.Maps.{AliasShape}
+use Rattle.mlir_scope.specs.Maps.{AliasShape}
 use Rattle.mlir_print.specs.Maps.{alias_text, maps_used}
 
--- a map whose dimensions are numbered by 32 bits
-pub record IsPrintableMap (m : MapShape) : Type 0 where
-  pub is_map : IsMap m
-  pub dims : m.dims ≤ 2 ^ 32
-
+-- the maps that have a text
 abbrev pub ArePrintableMaps : List MapShape → Type 0
-ArePrintableMaps ms = AllByRecursion IsPrintableMap ms
+ArePrintableMaps ms = AllByRecursion IsMap ms
 
 -- ---- each map that is used has an alias
 

@@ -1,5 +1,5 @@
 -- The files whose canonical text reads back: those of today's grammar, within its limits.
-use Rattle.std.specs.Prelude.{◌≡◌, ◌<◌, ◌≤◌, ◌^◌, ℕ, ◌+◌, true, List, [], ◌∷◌, ◌++◌, map, length, Option, Some, None}
+use Rattle.std.specs.Prelude.{◌≡◌, ◌<◌, ◌≤◌, ℕ, ◌+◌, true, List, [], ◌∷◌, ◌++◌, map, length, Option, Some, None}
 use Rattle.std.specs.List.{AllByRecursion}
 use Rattle.payload_ops.specs.declared.kinds.ElemTy.{ElemTy}
 use Rattle.payload_ops.specs.declared.kinds.ElemTy.TheVariants.{Int, Index}
@@ -18,15 +18,15 @@ use Rattle.mlir_ir.specs.declared.tree.OpKind.{OpKind}
 use Rattle.mlir_ir.specs.declared.tree.OpKind.TheVariants as kinds
 use Rattle.mlir_ir.specs.declared.tree.Op.{Op}
 use Rattle.mlir_ir.specs.Shape.{FuncShape}
-use Rattle.mlir_resolve.specs.Names.{place}
-use Rattle.mlir_resolve.specs.Types.{elem_of, elements}
+use Rattle.mlir_scope.specs.Names.{place}
+use Rattle.mlir_scope.specs.Types.{elem_of, elements}
 use Rattle.text_format.specs.Types.{is_word}
 use Rattle.mlir_print.specs.declared.names.Given.TheVariants.{Argument}
 use Rattle.mlir_print.specs.Names.{Names, Row, look}
 use Rattle.mlir_print.specs.Operations.{next}
 use Rattle.mlir_print.specs.Canonical.{names_in}
 use Rattle.payload_ops.specs.declared.step.PayloadStep.{PayloadStep}
-use Rattle.mlir_resolve.specs.Literals.{is_near, is_written}
+use Rattle.mlir_scope.specs.Literals.{is_near, is_written}
 use Rattle.script_read.specs.declared.script.Script.{Script}
 use Rattle.script_roundtrip.specs.Printable as scripts
 use Rattle.mlir_file.specs.declared.file.File.{File}
@@ -99,12 +99,11 @@ abbrev pub elem_in : List Row → ValueId → ElemTy
 elem_in rows v = elem_of (row_in rows v).ty
 
 -- an operation of a step that a text spells, with a value of this type. A constant of index lies within plus and minus 2^31,
--- and a dimension from 0 to 1,048,576; the map of a linear step has a dimension for each term; no captured value is written yet
+-- and a dimension from 0 to 1,048,576; no captured value is written yet
 abbrev pub IsPrintableOp : ElemTy → StepOp → Type 0
 IsPrintableOp e (ops.Const v) = is_near e v ≡ true
 IsPrintableOp e (ops.Index k) = k ≤ 1048576
 IsPrintableOp e (ops.Captured k) = ⊥
-IsPrintableOp e (ops.Linear c ts) = length ts < 2 ^ 32
 IsPrintableOp e o = Unit {0}
 
 -- a step whose type is i1 to i64, or index
@@ -116,7 +115,6 @@ pub record IsPrintableStep (s : PayloadStep) : Type 0 where
 pub record IsPrintableGeneric (rows : List Row) (ty : Ty) (maps : List MapShape) (its : List Iter) (ins : List ValueId) (out : ValueId) (captured : List ValueId) (p : PayloadShape) : Type 0 where
   pub result : IsTensorType ty
   pub maps_printable : ArePrintableMaps maps
-  pub few_maps : length maps ≤ 2 ^ 32
   pub few_iterators : length its ≤ 12
   pub not_captured : captured ≡ []
   pub few : length ins < 64

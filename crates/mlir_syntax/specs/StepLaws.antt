@@ -7,7 +7,7 @@ use Rattle.text_format.specs.declared.lexeme.Lexeme.TheVariants.{OpenParenthesis
 use Rattle.text_format.specs.declared.lexeme.Lexeme.TheVariants as words
 use Rattle.text_format.specs.Laws.{IsExact, avoids}
 use Rattle.text_format.specs.Exact.{leaf-exact, before-exact, record-exact, either-exact, ◌⊠◌, ◌▹◌}
-use Rattle.text_format.specs.Many.{list-exact}
+use Rattle.text_format.specs.Many.{list-exact, list_with_close-exact}
 use Rattle.text_format.specs.Open.{IsOpen, exact-open, record-open, last-open, either-open}
 use Rattle.text_format.specs.Formats.{either}
 use Rattle.mlir_syntax.specs.declared.tree.steps.BinaryStep.{BinaryStep}
@@ -63,7 +63,7 @@ apply_operand-exact = record-exact _ _ _ (λ _. refl) (λ _. refl) (leaf-exact V
 
 pub apply_symbols-exact : IsExact apply_symbols
 unfolding apply_symbols apply_operand
-apply_symbols-exact = record-exact _ _ _ (λ _. refl) (λ _. refl) (OpenBracket ▹ list-exact CloseBracket apply_operand-exact (λ _. refl) refl)
+apply_symbols-exact = record-exact _ _ _ (λ _. refl) (λ _. refl) (OpenBracket ▹ list_with_close-exact CloseBracket apply_operand-exact (λ _. refl) refl)
 
 pub apply_step-open : IsOpen (Exactly OpenBracket) apply_step
 unfolding apply_step apply_operand apply_symbols

@@ -5,7 +5,7 @@ use Rattle.text_format.specs.declared.class.Class.TheVariants.{Exactly, Name, Bi
 use Rattle.text_format.specs.declared.class.Position.TheVariants.{PayloadStep}
 use Rattle.text_format.specs.declared.lexeme.Lexeme.TheVariants.{OpenParenthesis, CloseParenthesis, OpenBracket, CloseBracket, Comma, Colon, To, ArithConstant, ArithCmpi, ArithSelect, ArithIndexCast, LinalgIndex, AffineApply}
 use Rattle.text_format.specs.declared.lexeme.Lexeme.TheVariants as words
-use Rattle.text_format.specs.Formats.{Format, leaf, before, ◌▸◌, ◌⊗◌, as_record, either, list_before}
+use Rattle.text_format.specs.Formats.{Format, leaf, before, ◌▸◌, ◌⊗◌, as_record, either, list_before, list_with_close}
 use Rattle.text_format.specs.Ends.{with_last}
 use Rattle.mlir_syntax.specs.declared.tree.steps.ConstantStep.{ConstantStep}
 use Rattle.mlir_syntax.specs.declared.tree.steps.BinaryStep.{BinaryStep}
@@ -66,7 +66,7 @@ apply_operand = as_record (λ t. record { name = t }) (λ o. o.name) (leaf Value
 
 -- [%i, %j]
 unfoldable pub apply_symbols : Format ApplySymbols
-apply_symbols = as_record (λ xs. record { operands = xs }) (λ s. s.operands) (OpenBracket ▸ list_before CloseBracket apply_operand)
+apply_symbols = as_record (λ x. record { operands = x.0; close = x.1 }) (λ s. (s.operands, s.close)) (OpenBracket ▸ list_with_close CloseBracket apply_operand)
 
 -- affine.apply #id(%i, %j)[%k]; the brackets need not be there
 unfoldable pub apply_step : Format ApplyStep

@@ -11,6 +11,7 @@ use Rattle.std.proofs.lemmas.Slice.Eq.{bytes_eq-Decides}
 use Rattle.std.proofs.lemmas.Str.Parse.{digit_from_value}
 use Rattle.text_format.specs.declared.front.Kind.TheVariants.{Value}
 use Rattle.text_format.specs.Classes.{is_numbered}
+use Rattle.text_format.specs.Numerals.{numeral}
 use Rattle.script_read.specs.declared.script.HandleId.{HandleId}
 use Rattle.script_read.specs.declared.names.Meaning.{Meaning}
 use Rattle.script_read.specs.declared.names.Meaning.TheVariants.{One, Group}
@@ -23,7 +24,7 @@ use Rattle.script_text.specs.declared.names.Row.{Row}
 use Rattle.script_text.specs.Names.{given_text, row, or_before, spot, look, name_or, name_in, parts, rows_of}
 use Rattle.script_roundtrip.specs.Printable.{IsDefined}
 use Rattle.script_roundtrip.specs.Renumbered.{number_in}
-use Rattle.script_roundtrip.proofs.Rows.{number_read, no_sign}
+use Rattle.script_roundtrip.proofs.Rows.{numeral_read, no_sign}
 
 abbrev pub result_name : ℕ → List ℕ
 result_name n = given_text (Single n)
@@ -217,16 +218,16 @@ single_stands env n k s f =
     ap (λ p. stands_for (find (env ++ entry (result_name n) (One k) ∷ []) p.0) p.1) (parted_plain (result_name n) (no_sign n s))
     ∙ ap (λ (o : Option Meaning). stands_for o None) (find_new env (result_name n) (One k) f)
 
-part_stands : (env : List Entry) (n j first end : ℕ) → n < 2 ^ 64 → j < 2 ^ 64 → first + j < end → find env (result_name n) ≡ None → stands (env ++ entry (result_name n) (Group first end) ∷ []) (Part n j) ≡ Some (handle_id (first + j))
-part_stands env n j first end s t l f =
+part_stands : (env : List Entry) (n j first end : ℕ) → n < 2 ^ 64 → first + j < end → find env (result_name n) ≡ None → stands (env ++ entry (result_name n) (Group first end) ∷ []) (Part n j) ≡ Some (handle_id (first + j))
+part_stands env n j first end s l f =
     let k : nat_lt (first + j) end ≡ true = lt-ltb (first + j) end l in
-    ap (λ p. stands_for (find (env ++ entry (result_name n) (Group first end) ∷ []) p.0) p.1) (parted_part (result_name n) (decimal j) (no_sign n s))
-    ∙ ap (λ (o : Option Meaning). stands_for o (Some (decimal j))) (find_new env (result_name n) (Group first end) f)
-    ∙ ap (λ (i : ℕ). cond (nat_lt (first + i) end) (Some (handle_id (first + i))) None) (number_read j t)
+    ap (λ p. stands_for (find (env ++ entry (result_name n) (Group first end) ∷ []) p.0) p.1) (parted_part (result_name n) (numeral j) (no_sign n s))
+    ∙ ap (λ (o : Option Meaning). stands_for o (Some (numeral j))) (find_new env (result_name n) (Group first end) f)
+    ∙ ap (λ (i : ℕ). cond (nat_lt (first + i) end) (Some (handle_id (first + i))) None) (numeral_read j)
     ∙ cond-true (nat_lt (first + j) end) (Some (handle_id (first + j))) None k
 
-pub parts_found : (env : List Entry) (n j first end : ℕ) (hs : List HandleId) → n < 2 ^ 64 → j + length hs < 2 ^ 64 → first + (j + length hs) ≤ end → find env (result_name n) ≡ None → FoundFrom (env ++ entry (result_name n) (Group first end) ∷ []) (first + j) (parts n j hs)
-parts_found env n j first end [] s t l f = tt
-parts_found env n j first end (h ∷ hs) s t l f =
+pub parts_found : (env : List Entry) (n j first end : ℕ) (hs : List HandleId) → n < 2 ^ 64 → first + (j + length hs) ≤ end → find env (result_name n) ≡ None → FoundFrom (env ++ entry (result_name n) (Group first end) ∷ []) (first + j) (parts n j hs)
+parts_found env n j first end [] s l f = tt
+parts_found env n j first end (h ∷ hs) s l f =
     let z : first + (j + 1) ≡ suc (first + j) = omega arith in
-    (part_stands env n j first end s (omega arith) (omega arith) f, subst (λ (i : ℕ). FoundFrom (env ++ entry (result_name n) (Group first end) ∷ []) i (parts n (j + 1) hs)) z (parts_found env n (j + 1) first end hs s (omega arith) (omega arith) f))
+    (part_stands env n j first end s (omega arith) f, subst (λ (i : ℕ). FoundFrom (env ++ entry (result_name n) (Group first end) ∷ []) i (parts n (j + 1) hs)) z (parts_found env n (j + 1) first end hs s (omega arith) f))

@@ -1,11 +1,11 @@
 -- The canonical text of a script stands for it.
-use Rattle.std.proofs.Common.{◌≡◌, ◌<◌, ◌≤◌, ◌^◌, ℕ, ◌-◌, drop, length-append, length-drop, List, [], ◌++◌, length, Ok, Err, Option, None, Result, refl, sym, ap, subst, ◌∙◌, arith}
-use Rattle.std.proofs.lemmas.List.{append-nil, length-map}
+use Rattle.std.proofs.Common.{◌≡◌, ℕ, ◌-◌, List, [], length, Ok, Err, Option, None, Result, refl, sym, ap, subst, ◌∙◌, arith}
+use Rattle.std.proofs.lemmas.List.{append-nil}
 use Rattle.text_format.specs.Token.{TokenShape}
 use Rattle.text_format.specs.Pieces.{Piece, IsSpaced, bytes_of, spans_at, shapes_at}
 use Rattle.text_format.specs.declared.span.Span.{Span}
 use Rattle.text_format.specs.Tokens as lexed
-use Rattle.text_format.specs.Tokens.{with_text, with_texts}
+use Rattle.text_format.specs.Tokens.{with_texts}
 use Rattle.text_format.specs.Parsing.{tokens_in}
 use Rattle.text_format.specs.Formats.{Item, live}
 use Rattle.text_format.specs.Laws.{Matches}
@@ -18,7 +18,7 @@ use Rattle.mlir_lex.specs.Faults.{first_of}
 use Rattle.script_syntax.specs.Lines.{sequence}
 use Rattle.script_syntax.specs.LineLaws.{sequence-exact}
 use Rattle.script_read.specs.declared.script.Script.{Script}
-use Rattle.script_read.specs.Reading.{StandsFor, tokens_behind, with_next, of_tree, reading}
+use Rattle.script_read.specs.Reading.{StandsFor, with_next, of_tree, reading}
 use Rattle.script_text.specs.Canonical.{sequence_at, text_of}
 use Rattle.script_roundtrip.specs.Printable.{IsTextOf, IsPrintable}
 use Rattle.script_roundtrip.specs.Renumbered.{renumbered}
@@ -26,7 +26,6 @@ use Rattle.script_roundtrip.proofs.Spelled.{sequence_spelled}
 use Rattle.script_roundtrip.proofs.Fitting.{sequence_fits}
 use Rattle.script_roundtrip.proofs.Spaced.{sequence_apart}
 use Rattle.script_roundtrip.proofs.Rounds.{sequence_found}
-use Rattle.script_roundtrip.proofs.Shown.{sequence_shown}
 use Rattle.script_roundtrip.proofs.Readable.{script_taken}
 
 abbrev got : List TokenShape → Result (List TokenShape) lexed.Fault → List TokenShape
@@ -76,18 +75,8 @@ read_is source ts first s next st =
 pub stands_for_one : (source : List ℕ) (ts : List Span) (first : ℕ) (a b : Script) (m n : ℕ) → StandsFor source ts first a m → StandsFor source ts first b n → a ≡ b
 stands_for_one source ts first a b m n x y = ap (script_in a) (sym (read_is source ts first a m x) ∙ read_is source ts first b n y)
 
--- there are no more tokens behind one than there are in all
-few_used : (source : List ℕ) (ts : List Span) (first : ℕ) (used left : List TokenShape) → tokens_behind source ts first ≡ used ++ left → length used ≤ length ts
-few_used source ts first used left e =
-    let a = length-map (drop first ts) (with_text source) in
-    let b = length-drop first ts in
-    let c = ap length e in
-    let d = length-append used left in
-    omega (arith, a, b, c, d)
-
 -- The canonical text of a script that tokens stand for stands for that script.
-pub read_stands : (source : List ℕ) (ts : List Span) (first : ℕ) (s : Script) (next : ℕ) → length ts ≤ 4194304 → StandsFor source ts first s next → IsTextOf (text_of s) s
-read_stands source ts first s next few st =
-    let h = few_used source ts first st.used st.left st.parts in
-    let r = script_taken st.tree (length st.used) s (omega (arith, h, few)) (sequence_shown st.tree st.used st.spelled) st.resolved in
+pub read_stands : (source : List ℕ) (ts : List Span) (first : ℕ) (s : Script) (next : ℕ) → StandsFor source ts first s next → IsTextOf (text_of s) s
+read_stands source ts first s next st =
+    let r = script_taken st.tree s st.resolved in
     subst (λ (t : Script). IsTextOf (text_of s) t) r.number (canonical_stands s r.printable)

@@ -4,7 +4,6 @@ pub mod Laws
 pub mod Readable
 pub mod Rounds
 pub mod Rows
-pub mod Shown
 pub mod Spaced
 pub mod Spelled
 pub mod Taken

@@ -1,5 +1,5 @@
 -- A script that is read is printable, and has the numbers of its canonical text.
-use Rattle.std.proofs.Common.{◌≡◌, ◌<◌, ◌≤◌, ◌^◌, ◌-◌, ℕ, zero, suc, ◌+◌, Bool, true, false, List, [], ◌∷◌, ◌++◌, map, drop, length, length-append, Option, Some, None, Result, Ok, Err, refl, sym, ap, subst, ◌∙◌, arith, nat_lt}
+use Rattle.std.proofs.Common.{◌≡◌, ◌<◌, ◌≤◌, ◌-◌, ℕ, zero, suc, ◌+◌, Bool, true, false, List, [], ◌∷◌, ◌++◌, map, drop, length, length-append, Option, Some, None, Result, Ok, Err, refl, sym, ap, subst, ◌∙◌, arith, nat_lt}
 use Rattle.std.specs.Prelude.{is_none}
 use Rattle.std.proofs.lemmas.Bool.{ltb-true}
 use Rattle.text_format.specs.Token.{TokenShape}
@@ -48,7 +48,6 @@ use Rattle.script_text.specs.Names.{start, parts, rows_of, next_of}
 use Rattle.script_roundtrip.specs.Printable.{IsPrintableKind, HasResults, IsPrintableStep, ArePrintable, IsPrintable}
 use Rattle.script_roundtrip.specs.Renumbered.{number_in, kind_renumbered, step_renumbered, steps_renumbered, renumbered}
 use Rattle.script_roundtrip.proofs.Taken.{then_ok, ok_same, demanded, Numbered, numbered_append, KindRead, handle_taken, sized_step_taken, match_taken, fuse_taken, pad_taken, vectorize_taken, split_taken, tile_for_taken, tile_forall_taken}
-use Rattle.script_roundtrip.proofs.Shown.{shown, shown_behind_first, shown_behind_second, shown_behind_third, AreShown}
 
 -- ---- kinds, by the number of results
 
@@ -88,6 +87,25 @@ group_taken env rows next (grouped.TileForall s) k n e h = tile_forall_taken env
 group_taken env rows next (grouped.FuseInto s) k n e h = fuse_taken env rows next s k n e h
 group_taken env rows next (grouped.Pad s) k n e h = pad_taken env rows next s k n e h
 group_taken env rows next (grouped.Many s t) k n e h = many_taken env rows next (group_count (grouped.Many s t)) s k n e (some_types t s) h
+
+-- ---- how many results a line shows
+
+abbrev shown_behind_third : BehindThird → ℕ
+shown_behind_third (third_rest.Step s) = 3
+shown_behind_third (third_rest.More f) = 4 + length f.names
+
+abbrev shown_behind_second : BehindSecond → ℕ
+shown_behind_second (second_rest.Step s) = 2
+shown_behind_second (second_rest.More t) = shown_behind_third t.rest
+
+abbrev shown_behind_first : BehindFirst → ℕ
+shown_behind_first (first_rest.Step s) = 1
+shown_behind_first (first_rest.More s) = shown_behind_second s.rest
+shown_behind_first (first_rest.Group g) = group_count g.step
+
+abbrev shown : Line → ℕ
+shown (lines.Named n) = shown_behind_first n.rest
+shown (lines.Vectorize v) = 0
 
 -- ---- definitions
 
@@ -214,22 +232,22 @@ record LinesRead (rows : List Row) (n : ℕ) (s : Scope) (ss : List Step) : Type
   numbers : steps_renumbered rows n ss ≡ ss
   few : s.steps + length ss ≤ 1024
 
-first_line : (rows : List Row) (n c : ℕ) (s : Scope) (r : Scope × Step) (ss : List Step) → s.next ≡ length rows → c < 2 ^ 64 → LineRead rows s c r → LinesRead (rows ++ rows_of n r.1.results) (next_of n r.1.results) r.0 ss → LinesRead rows n s (r.1 ∷ ss)
-first_line rows n c s r ss e lt l m =
+first_line : (rows : List Row) (n c : ℕ) (s : Scope) (r : Scope × Step) (ss : List Step) → s.next ≡ length rows → LineRead rows s c r → LinesRead (rows ++ rows_of n r.1.results) (next_of n r.1.results) r.0 ss → LinesRead rows n s (r.1 ∷ ss)
+first_line rows n c s r ss e l m =
     let long : length r.1.results ≡ c = ap length l.results ∙ ids_long s.next c in
     let more = l.steps in
     let few = m.few in
     let same : ids (length rows) (length r.1.results) ≡ r.1.results = ap (ids (length rows)) long ∙ ap (λ (i : ℕ). ids i c) (sym e) ∙ sym l.results in
     let one : step_renumbered rows r.1 ≡ r.1 = ap (λ (hs : List HandleId). record { results = hs; kind = kind_renumbered (number_in rows) r.1.kind }) same ∙ ap (λ (k : StepKind). record { results = r.1.results; kind = k }) l.kind.number in
     record {
-      steps = (record { count = subst (HasResults r.1.kind) (sym long) l.has; few = omega (arith, long, lt); kind = l.kind.printable }, m.steps);
+      steps = (record { count = subst (HasResults r.1.kind) (sym long) l.has; kind = l.kind.printable }, m.steps);
       numbers = ap (λ (xs : List Step). step_renumbered rows r.1 ∷ xs) m.numbers ∙ ap (λ (x : Step). x ∷ ss) one;
       few = omega (arith, more, few);
     }
 
-lines_taken : (until m : ℕ) (rows : List Row) (n : ℕ) (s : Scope) (ls : List Line) (r : Scope × List Step) → Numbered 0 rows → s.next ≡ length rows → s.steps ≤ 1024 → m < 2 ^ 64 → AreShown m ls → thread (line_of until) s ls ≡ Ok r → LinesRead rows n s r.1
-lines_taken until m rows n s [] r num e few lt a h = subst (λ (q : Scope × List Step). LinesRead rows n s q.1) (ok_same (s, []) r h) (record { steps = tt; numbers = refl; few = omega (arith, few) })
-lines_taken until m rows n s (l ∷ ls) r num e few lt a h =
+lines_taken : (until : ℕ) (rows : List Row) (n : ℕ) (s : Scope) (ls : List Line) (r : Scope × List Step) → Numbered 0 rows → s.next ≡ length rows → s.steps ≤ 1024 → thread (line_of until) s ls ≡ Ok r → LinesRead rows n s r.1
+lines_taken until rows n s [] r num e few h = subst (λ (q : Scope × List Step). LinesRead rows n s q.1) (ok_same (s, []) r h) (record { steps = tt; numbers = refl; few = omega (arith, few) })
+lines_taken until rows n s (l ∷ ls) r num e few h =
     let x = then_ok (line_of until s l) (λ r. and_then (thread (line_of until) r.0 ls) (λ q. Ok (q.0, r.1 ∷ q.1))) r h in
     let y = then_ok (thread (line_of until) x.0.0 ls) (λ q. Ok (q.0, x.0.1 ∷ q.1)) r x.2 in
     let one = line_taken until rows s l x.0 num e x.1 in
@@ -242,19 +260,18 @@ lines_taken until m rows n s (l ∷ ls) r num e few lt a h =
     let num2 = numbered_append 0 rows (rows_of n x.0.1.results) num (subst (λ (i : ℕ). Numbered i (rows_of n x.0.1.results)) z more) in
     let long : length (rows_of n x.0.1.results) ≡ shown l = rows_long n x.0.1.results ∙ ap length one.results ∙ ids_long s.next (shown l) in
     let e2 : x.0.0.next ≡ length (rows ++ rows_of n x.0.1.results) = omega (arith, next, long, e, length-append rows (rows_of n x.0.1.results)) in
-    let rest = lines_taken until m (rows ++ rows_of n x.0.1.results) (next_of n x.0.1.results) x.0.0 ls y.0 num2 e2 (omega (arith, steps, below)) lt a.1 y.1 in
-    let first = a.0 in
-    subst (λ (q : Scope × List Step). LinesRead rows n s q.1) (ok_same (y.0.0, x.0.1 ∷ y.0.1) r y.2) (first_line rows n (shown l) s x.0 y.0.1 e (omega (arith, first, lt)) one rest)
+    let rest = lines_taken until (rows ++ rows_of n x.0.1.results) (next_of n x.0.1.results) x.0.0 ls y.0 num2 e2 (omega (arith, steps, below)) y.1 in
+    subst (λ (q : Scope × List Step). LinesRead rows n s q.1) (ok_same (y.0.0, x.0.1 ∷ y.0.1) r y.2) (first_line rows n (shown l) s x.0 y.0.1 e one rest)
 
 -- a script that was read
 pub record ScriptRead (s : Script) : Type 0 where
   pub printable : IsPrintable s
   pub number : renumbered s ≡ s
 
-pub script_taken : (q : Sequence) (m : ℕ) (s : Script) → m < 2 ^ 64 → AreShown m q.lines → resolve q ≡ Ok s → ScriptRead s
-script_taken q m s lt a h =
+pub script_taken : (q : Sequence) (s : Script) → resolve q ≡ Ok s → ScriptRead s
+script_taken q s h =
     let x = then_ok (thread (line_of q.end.start) (resolving.start q.root.text) q.lines) (λ r. Ok (record { root = handle_id 0; steps = r.1 })) s h in
-    let l = lines_taken q.end.start m (start (handle_id 0)) 0 (resolving.start q.root.text) q.lines x.0 (refl, tt) refl (omega arith) lt a x.1 in
+    let l = lines_taken q.end.start (start (handle_id 0)) 0 (resolving.start q.root.text) q.lines x.0 (refl, tt) refl (omega arith) x.1 in
     let few = l.few in
     subst (λ (t : Script). ScriptRead t) (ok_same (record { root = handle_id 0; steps = x.0.1 }) s x.2)
     (record { printable = record { few = omega (arith, few); steps = l.steps }; number = ap (λ (ss : List Step). record { root = handle_id 0; steps = ss }) l.numbers })

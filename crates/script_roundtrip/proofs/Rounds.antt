@@ -1,5 +1,5 @@
 -- The tree of a printable script's canonical text stands for the script with the numbers of the text.
-use Rattle.std.proofs.Common.{◌≡◌, ◌<◌, ◌≤◌, ◌^◌, ◌-◌, ℕ, zero, suc, ◌+◌, Bool, true, false, ◌&&◌, List, [], ◌∷◌, ◌++◌, map, length, take, drop, Option, Some, None, Result, Ok, Err, refl, sym, ap, subst, ◌∙◌, arith, codes, decimal, nat_eq, nat_le, nat_lt, length-append}
+use Rattle.std.proofs.Common.{◌≡◌, ◌<◌, ◌≤◌, ◌^◌, ◌-◌, ℕ, zero, suc, ◌+◌, Bool, true, false, ◌&&◌, List, [], ◌∷◌, ◌++◌, map, length, take, drop, Option, Some, None, Result, Ok, Err, refl, sym, ap, subst, ◌∙◌, arith, codes, nat_eq, nat_le, nat_lt, length-append}
 use Rattle.std.specs.Prelude.{ℤ, pos, negsuc, is_none}
 use Rattle.std.specs.List.{AllByRecursion}
 use Rattle.std.proofs.lemmas.Bool.{le-leb, lt-ltb, eq-eqb}
@@ -8,6 +8,7 @@ use Rattle.std.proofs.Math.Pow.{pow_mono}
 use Rattle.std.proofs.Math.Nat.{one-le-pow}
 use Rattle.payload_ops.specs.Bits.{minus_one, least_signed}
 use Rattle.text_format.specs.declared.front.Kind.TheVariants.{Value}
+use Rattle.text_format.specs.Numerals.{numeral}
 use Rattle.text_format.specs.Pieces.{bytes_of}
 use Rattle.text_format.specs.Token.{TokenShape}
 use Rattle.text_format.specs.Writers.{Writer, put, each_of, commas, after_comma}
@@ -45,7 +46,7 @@ use Rattle.script_text.specs.Steps.{signed_at, number_at, numbers_at, pad_value_
 use Rattle.script_text.specs.Canonical.{result_at, none_at, line_at, lines_at, sequence_at}
 use Rattle.script_roundtrip.specs.Printable.{IsDefined, AreSizes, IsLiteral, IsPadValue, ArePadArgs, AreVectorSizes, IsPrintableKind, HasResults, IsPrintableStep, ArePrintable, IsPrintable}
 use Rattle.script_roundtrip.specs.Renumbered.{number_in, kind_renumbered, step_renumbered, steps_renumbered, renumbered}
-use Rattle.script_roundtrip.proofs.Rows.{number_read, width_read}
+use Rattle.script_roundtrip.proofs.Rows.{number_read, numeral_read, width_read}
 use Rattle.script_roundtrip.proofs.Found.{result_name, FoundFrom, found_more, found_append, handle_found, FreshAbove, fresh_start, fresh_next, single_stands, parts_found}
 use Rattle.script_roundtrip.proofs.Fitting.{next_small}
 
@@ -202,9 +203,9 @@ parts_are : (n j : ℕ) (hs : List HandleId) → length (parts n j hs) ≡ lengt
 parts_are n j [] = refl
 parts_are n j (h ∷ hs) = ap suc (parts_are n (j + 1) hs)
 
-tied_after : (rows : List Row) (n : ℕ) (s : Scope) (hs : List HandleId) → n < 2 ^ 64 → length hs < 2 ^ 64 → Tied rows n s → Tied (rows ++ rows_of n hs) (next_of n hs) (counted (after s n hs))
-tied_after rows n s [] a b t = record { count = ap length (append-nil rows) ∙ t.count; found = subst (λ (rs : List Row). FoundFrom s.env 0 rs) (sym (append-nil rows)) t.found; fresh = t.fresh }
-tied_after rows n s (h ∷ []) a b t =
+tied_after : (rows : List Row) (n : ℕ) (s : Scope) (hs : List HandleId) → n < 2 ^ 64 → Tied rows n s → Tied (rows ++ rows_of n hs) (next_of n hs) (counted (after s n hs))
+tied_after rows n s [] a t = record { count = ap length (append-nil rows) ∙ t.count; found = subst (λ (rs : List Row). FoundFrom s.env 0 rs) (sym (append-nil rows)) t.found; fresh = t.fresh }
+tied_after rows n s (h ∷ []) a t =
     let new = single_stands s.env n s.next a (t.fresh n (omega arith) a) in
     let z : s.next ≡ 0 + length rows = omega (arith, t.count) in
     record {
@@ -212,9 +213,9 @@ tied_after rows n s (h ∷ []) a b t =
       found = found_append (after s n (h ∷ [])).env 0 rows (rows_of n (h ∷ [])) (found_more s.env _ 0 rows t.found) (new ∙ ap (λ (i : ℕ). Some (handle_id i)) z, tt);
       fresh = fresh_next s.env n (One s.next) a t.fresh;
     }
-tied_after rows n s (h ∷ (g ∷ hs)) a b t =
+tied_after rows n s (h ∷ (g ∷ hs)) a t =
     let c = suc (suc (length hs)) in
-    let new = parts_found s.env n 0 s.next (s.next + suc (suc (length hs))) (h ∷ (g ∷ hs)) a (omega arith) (omega arith) (t.fresh n (omega arith) a) in
+    let new = parts_found s.env n 0 s.next (s.next + suc (suc (length hs))) (h ∷ (g ∷ hs)) a (omega arith) (t.fresh n (omega arith) a) in
     let z : s.next + 0 ≡ 0 + length rows = omega (arith, t.count) in
     record {
       count = length-append rows (rows_of n (h ∷ (g ∷ hs))) ∙ omega (arith, t.count, parts_are n 0 (h ∷ (g ∷ hs)));
@@ -268,27 +269,27 @@ abbrev behind_result : ℕ → ℕ → ℕ
 behind_result n at = at + length (bytes_of (result_at n).pieces)
 
 abbrev count_at : ℕ → Writer TokenShape
-count_at c = put Number tokens.Number (decimal c)
+count_at c = put Number tokens.Number (numeral c)
 
 abbrev behind_count : ℕ → ℕ → ℕ → ℕ
 behind_count n c at = behind_result n at + 1 + length (bytes_of (count_at c).pieces) + 1 + 1 + 1
 
-line_read : (until : ℕ) (rows : List Row) (n : ℕ) (s : Scope) (hs : List HandleId) (k : StepKind) (at : ℕ) → Tied rows n s → s.steps < 1024 → n < 2 ^ 64 → length hs < 2 ^ 64 → HasResults k (length hs) → IsPrintableKind rows k
+line_read : (until : ℕ) (rows : List Row) (n : ℕ) (s : Scope) (hs : List HandleId) (k : StepKind) (at : ℕ) → Tied rows n s → s.steps < 1024 → n < 2 ^ 64 → HasResults k (length hs) → IsPrintableKind rows k
     → line_of until s ((line_at rows n hs k).tree at) ≡ Ok (counted (after s n hs), Step_of rows hs k)
-line_read until rows n s [] k at t few a b e p = none_line until rows n s k at t few e p
-line_read until rows n s (h ∷ []) k at t few a b e p =
+line_read until rows n s [] k at t few a e p = none_line until rows n s k at t few e p
+line_read until rows n s (h ∷ []) k at t few a e p =
     let x = (one_at rows k).tree (behind_result n at + 1 + 1 + 1) in
     let r = one_read (after s n (h ∷ [])).env rows s.next k (behind_result n at + 1 + 1 + 1) (found_more s.env _ 0 rows t.found) t.count e p in
     one_line until s n at ((one_at rows k).tree (behind_result n at + 1 + 1 + 1)) (kind_renumbered (number_in rows) k) (t.fresh n (omega arith) a) few r
     ∙ ap (λ (i : ℕ). Ok (counted (after s n (h ∷ [])), record { results = ids i 1; kind = kind_renumbered (number_in rows) k })) (sym t.count)
-line_read until rows n s (h ∷ (g ∷ hs)) k at t few a b e p =
+line_read until rows n s (h ∷ (g ∷ hs)) k at t few a e p =
     let c = suc (suc (length hs)) in
     let there = behind_count n (suc (suc (length hs))) at in
     let r = group_read (after s n (h ∷ (g ∷ hs))).env rows s.next (length hs) k (behind_count n (suc (suc (length hs))) at) (found_more s.env _ 0 rows t.found) t.count e p in
     group_line until s n at
     (record { count = (count_at (suc (suc (length hs)))).tree (behind_result n at + 1); step = (group_step_at rows (length hs) k).tree (behind_count n (suc (suc (length hs))) at) })
     (suc (suc (length hs))) (kind_renumbered (number_in rows) k) (t.fresh n (omega arith) a) few
-    (counts until (number_of (decimal (suc (suc (length hs))))) (length hs) rows k (behind_count n (suc (suc (length hs))) at) (number_read (suc (suc (length hs))) b) e)
+    (counts until (number_of (numeral (suc (suc (length hs))))) (length hs) rows k (behind_count n (suc (suc (length hs))) at) (numeral_read (suc (suc (length hs)))) e)
     (count_is rows (length hs) k (behind_count n (suc (suc (length hs))) at) e) r
     ∙ ap (λ (i : ℕ). Ok (counted (after s n (h ∷ (g ∷ hs))), record { results = ids i (suc (suc (length hs))); kind = kind_renumbered (number_in rows) k })) (sym t.count)
 
@@ -303,8 +304,8 @@ lines_read until depth rows n s [] at t few a p = (s, refl)
 lines_read until depth rows n s (x ∷ ss) at t few a p =
     let small : n < 2 ^ 64 = omega arith in
     let k = after_steps s n x.results in
-    let one = line_read until rows n s x.results x.kind (at + length (new_line depth)) t (omega arith) small p.0.few p.0.count p.0.kind in
-    let more = lines_read until depth (rows ++ rows_of n x.results) (next_of n x.results) (counted (after s n x.results)) ss _ (tied_after rows n s x.results small p.0.few t) (omega (arith, k)) (next_small n x.results (length ss) a) p.1 in
+    let one = line_read until rows n s x.results x.kind (at + length (new_line depth)) t (omega arith) small p.0.count p.0.kind in
+    let more = lines_read until depth (rows ++ rows_of n x.results) (next_of n x.results) (counted (after s n x.results)) ss _ (tied_after rows n s x.results small t) (omega (arith, k)) (next_small n x.results (length ss) a) p.1 in
     (more.0, then_is _ _ (counted (after s n x.results), Step_of rows x.results x.kind) _ one (then_is _ _ (more.0, steps_renumbered (rows ++ rows_of n x.results) (next_of n x.results) ss) _ more.1 refl))
 
 -- ---- scripts

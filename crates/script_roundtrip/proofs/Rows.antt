@@ -1,5 +1,5 @@
 -- The names of handles, and which are small.
-use Rattle.std.proofs.Common.{◌≡◌, ◌<◌, ◌≤◌, ◌^◌, ℕ, zero, suc, ◌+◌, Bool, true, false, cond, not, ◌||◌, List, [], ◌∷◌, ◌++◌, length, Option, Some, None, refl, sym, ap, subst, ◌∙◌, arith, codes, decimal, nat_eq, nat_le, nat_lt}
+use Rattle.std.proofs.Common.{◌≡◌, ◌<◌, ◌≤◌, ◌^◌, ℕ, zero, suc, ◌+◌, Bool, true, false, cond, not, ◌||◌, List, [], ◌∷◌, ◌++◌, Option, Some, None, refl, sym, ap, subst, ◌∙◌, arith, codes, decimal, nat_eq, nat_le, nat_lt}
 use Rattle.std.specs.List.{AllByRecursion}
 use Rattle.std.specs.Fmt.{digits}
 use Rattle.std.specs.Str.Parse.{AllDigits}
@@ -7,7 +7,9 @@ use Rattle.std.proofs.lemmas.Bool.{ne_eqb, and_parts, leb-true, leb-false, cond-
 use Rattle.std.proofs.lemmas.Fmt.{decimal_is_IsNumeral, digits_decimal, digits_value-decimal}
 use Rattle.std.proofs.lemmas.Str.Parse.{IsNumeralModel, numerals_by_fold, tells_digits, digit_from_value}
 use Rattle.text_format.specs.Classes.{is_numbered}
+use Rattle.text_format.specs.Numerals.{numeral}
 use Rattle.text_format.specs.Types.{width_of}
+use Rattle.text_format.proofs.Numerals.{numeral_writes}
 use Rattle.script_read.specs.declared.script.HandleId.{HandleId}
 use Rattle.script_read.specs.Numbers.{number_from, number_of}
 use Rattle.script_text.specs.declared.names.Given.{Given}
@@ -23,6 +25,10 @@ number_model = numerals_by_fold (AllDigits 10) tells_digits number_from (record 
 -- a number that was written is read
 pub number_read : (n : ℕ) → n < 2 ^ 64 → number_of (decimal n) ≡ n
 number_read n s = digits_value-decimal number_model n s
+
+-- and so is a numeral of any size
+pub numeral_read : (n : ℕ) → number_of (numeral n) ≡ n
+numeral_read n = let w = numeral_writes n in number_model.same (numeral n) w.0.1 ∙ w.1
 
 no_sign_digits : (ds : List ℕ) → AllDigits 10 ds → is_numbered ds ≡ false
 no_sign_digits [] a = refl
@@ -75,7 +81,7 @@ width_read w lo hi = that (width_of (codes "i" ++ decimal w)) w (up_to (λ v. is
 abbrev pub IsSmall : Given → Type 0
 IsSmall Root = Unit {0}
 IsSmall (Single n) = n < 2 ^ 64
-IsSmall (Part n k) = (n < 2 ^ 64) × (k < 2 ^ 64)
+IsSmall (Part n k) = n < 2 ^ 64
 
 abbrev pub AreSmall : List Row → Type 0
 AreSmall rows = AllByRecursion (λ r. IsSmall r.name) rows
@@ -96,11 +102,11 @@ pub small_append : (xs ys : List Row) → AreSmall xs → AreSmall ys → AreSma
 small_append [] ys s t = t
 small_append (x ∷ xs) ys s t = (s.0, small_append xs ys s.1 t)
 
-parts_small : (n k : ℕ) (hs : List HandleId) → n < 2 ^ 64 → k + length hs < 2 ^ 64 → AreSmall (parts n k hs)
-parts_small n k [] s t = tt
-parts_small n k (h ∷ hs) s t = ((s, omega arith), parts_small n (k + 1) hs s (omega arith))
+parts_small : (n k : ℕ) (hs : List HandleId) → n < 2 ^ 64 → AreSmall (parts n k hs)
+parts_small n k [] s = tt
+parts_small n k (h ∷ hs) s = (s, parts_small n (k + 1) hs s)
 
-pub rows_small : (n : ℕ) (hs : List HandleId) → n < 2 ^ 64 → length hs < 2 ^ 64 → AreSmall (rows_of n hs)
-rows_small n [] s t = tt
-rows_small n (h ∷ []) s t = (s, tt)
-rows_small n (h ∷ (g ∷ hs)) s t = parts_small n 0 (h ∷ (g ∷ hs)) s (omega arith)
+pub rows_small : (n : ℕ) (hs : List HandleId) → n < 2 ^ 64 → AreSmall (rows_of n hs)
+rows_small n [] s = tt
+rows_small n (h ∷ []) s = (s, tt)
+rows_small n (h ∷ (g ∷ hs)) s = parts_small n 0 (h ∷ (g ∷ hs)) s

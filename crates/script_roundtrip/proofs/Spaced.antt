@@ -18,7 +18,7 @@ use Rattle.text_format.specs.Lexemes.{lexeme_kind, lexeme_text}
 use Rattle.text_format.specs.Bytes.{is_blank, is_digit, belongs}
 use Rattle.text_format.specs.Pieces.{Piece, Gap, Fixed, Leaf, bytes_of}
 use Rattle.text_format.specs.Writers.{Writer, each_of, commas}
-use Rattle.text_format.proofs.Spacing.{all_in, IsName, IsApart, Opens, value_name, result_name, result_part_name, integer_type_name, decimal_name, decimal_some, decimal_in_digits, number_name, minus_ends, quoted_closed, is_minus, lexeme_name, none_apart, none_opens, gap_apart, space, fixed_closed, fixed_word, leaf_name, leaf_closed, append_apart, append_opens, space_opens, fixed_opens, leaf_opens}
+use Rattle.text_format.proofs.Spacing.{all_in, IsName, IsApart, Opens, value_name, result_name, result_part_name, integer_type_name, decimal_name, decimal_some, decimal_in_digits, numeral_name, number_name, minus_ends, quoted_closed, is_minus, lexeme_name, none_apart, none_opens, gap_apart, space, fixed_closed, fixed_word, leaf_name, leaf_closed, append_apart, append_opens, space_opens, fixed_opens, leaf_opens}
 use Rattle.text_format.proofs.Written.{AreApart, AreOpen, each_apart, commas_apart}
 use Rattle.script_read.specs.declared.script.HandleId.{HandleId}
 use Rattle.script_read.specs.declared.script.PadArgs.{PadArgs}
@@ -46,7 +46,7 @@ root_name = value_name (codes "arg0") (omega arith) refl
 given_name : (g : Given) → IsSmall g → IsName Value (given_text g)
 given_name Root s = root_name
 given_name (Single n) s = result_name n s
-given_name (Part n k) s = result_part_name n k s.0 s.1
+given_name (Part n k) s = result_part_name n k s
 
 handle_name : (rows : List Row) (h : HandleId) → AreSmall rows → IsDefined rows h → IsName Value (name_in rows h)
 handle_name rows h s d = subst (λ o. IsName Value (name_or o)) (sym d.1) (given_name d.0.name (look_small rows h.0 d.0 s d.1))
@@ -287,13 +287,13 @@ none_result_apart rows (kinds.FuseElementwise h) s e p = absurd (omega (arith, e
 
 -- ---- lines
 
-line_apart : (rows : List Row) (n : ℕ) (hs : List HandleId) (k : StepKind) → AreSmall rows → n < 2 ^ 64 → length hs < 2 ^ 64 → HasResults k (length hs) → IsPrintableKind rows k → IsApart (line_at rows n hs k).pieces
-line_apart rows n [] k s m l e p = none_result_apart rows k s e p
-line_apart rows n (h ∷ []) k s m l e p =
+line_apart : (rows : List Row) (n : ℕ) (hs : List HandleId) (k : StepKind) → AreSmall rows → n < 2 ^ 64 → HasResults k (length hs) → IsPrintableKind rows k → IsApart (line_at rows n hs k).pieces
+line_apart rows n [] k s m e p = none_result_apart rows k s e p
+line_apart rows n (h ∷ []) k s m e p =
     leaf_name (classes.NewValueAt places.ScriptStatement) (result_name n m) space_opens (space (fixed_closed lexemes.Equals refl (space (one_apart rows k s e p))))
-line_apart rows n (h ∷ (g ∷ hs)) k s m l e p =
+line_apart rows n (h ∷ (g ∷ hs)) k s m e p =
     leaf_name (classes.NewValueAt places.ScriptStatement) (result_name n m) (fixed_opens lexemes.Colon refl) (fixed_closed lexemes.Colon refl
-    (leaf_name classes.Number (decimal_name (length (h ∷ (g ∷ hs))) l) space_opens (space (fixed_closed lexemes.Equals refl (space (group_apart rows (length hs) k s e p))))))
+    (leaf_name classes.Number (numeral_name (length (h ∷ (g ∷ hs)))) space_opens (space (fixed_closed lexemes.Equals refl (space (group_apart rows (length hs) k s e p))))))
 
 blanks : (depth : ℕ) → AllByRecursion (λ b. is_blank b ≡ true) (repeated depth (codes "  "))
 blanks zero = tt
@@ -311,8 +311,8 @@ lines_apart : (depth : ℕ) (rows : List Row) (n : ℕ) (ss : List Step) → Are
 lines_apart depth rows n [] s m p = (tt, tt)
 lines_apart depth rows n (x ∷ ss) s m p =
     let small : n < 2 ^ 64 = omega arith in
-    let r = lines_apart depth (rows ++ rows_of n x.results) (next_of n x.results) ss (small_append rows (rows_of n x.results) s (rows_small n x.results small p.0.few)) (next_small n x.results (length ss) m) p.1 in
-    ((new_line_apart depth (line_apart rows n x.results x.kind s small p.0.few p.0.count p.0.kind), r.0), (new_line_opens depth, r.1))
+    let r = lines_apart depth (rows ++ rows_of n x.results) (next_of n x.results) ss (small_append rows (rows_of n x.results) s (rows_small n x.results small)) (next_small n x.results (length ss) m) p.1 in
+    ((new_line_apart depth (line_apart rows n x.results x.kind s small p.0.count p.0.kind), r.0), (new_line_opens depth, r.1))
 
 pub sequence_apart : (depth : ℕ) (s : Script) → IsPrintable s → IsApart (sequence_at depth s).pieces
 sequence_apart depth s p =

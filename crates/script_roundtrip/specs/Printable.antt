@@ -1,5 +1,5 @@
 -- The scripts whose canonical text reads back: those that some text stands for, up to the numbers of handles.
-use Rattle.std.specs.Prelude.{◌≡◌, ◌<◌, ◌≤◌, ◌^◌, true, ℕ, suc, ℤ, pos, negsuc, List, [], ◌∷◌, ◌++◌, length, Ok, Option, Some, None}
+use Rattle.std.specs.Prelude.{◌≡◌, ◌<◌, ◌≤◌, true, ℕ, suc, ℤ, pos, negsuc, List, [], ◌∷◌, ◌++◌, length, Ok, Option, Some, None}
 use Rattle.std.specs.List.{AllByRecursion}
 use Rattle.payload_ops.specs.Bits.{minus_one, least_signed}
 use Rattle.text_format.specs.declared.span.Span.{Span}
@@ -72,7 +72,6 @@ HasResults k n = n ≡ 1
 
 pub record IsPrintableStep (rows : List Row) (s : Step) : Type 0 where
   pub count : HasResults s.kind (length s.results)
-  pub few : length s.results < 2 ^ 64
   pub kind : IsPrintableKind rows s.kind
 
 -- the steps behind these handles, where the next results have number n

@@ -5,6 +5,7 @@ use Rattle.std.specs.Fmt.{signed_decimal}
 use Rattle.std.proofs.lemmas.List.{append-nil}
 use Rattle.text_format.specs.declared.lexeme.Lexeme.{Lexeme}
 use Rattle.text_format.specs.declared.lexeme.Lexeme.TheVariants.{StructuredGeneralize, StructuredInterchange, StructuredPack, TileUsingForall, SplitHandle, IteratorInterchange, PackedSizes, TileSizes}
+use Rattle.text_format.specs.Numerals.{numeral}
 use Rattle.text_format.specs.Pieces.{Piece, bytes_of}
 use Rattle.text_format.specs.Writers.{Writer, each_of, commas, after_comma}
 use Rattle.text_format.proofs.Written.{bytes_append}
@@ -178,10 +179,10 @@ line_bytes : (rows : List Row) (n : ℕ) (hs : List HandleId) (k : StepKind) →
 line_bytes rows n [] k = none_bytes rows k
 line_bytes rows n (h ∷ []) k = ap (λ (t : List ℕ). (codes "%" ++ decimal n) ++ (codes " = " ++ t)) (one_bytes rows k) ∙ sym (append_assoc (codes "%" ++ decimal n) (codes " = ") (one_text rows k))
 line_bytes rows n (h ∷ (g ∷ hs)) k =
-    let d = decimal (length (h ∷ (g ∷ hs))) in
-    ap (λ (t : List ℕ). (codes "%" ++ decimal n) ++ (codes ":" ++ (decimal (length (h ∷ (g ∷ hs))) ++ (codes " = " ++ t)))) (group_bytes rows hs k)
-    ∙ ap (λ (t : List ℕ). (codes "%" ++ decimal n) ++ (codes ":" ++ t)) (sym (append_assoc (decimal (length (h ∷ (g ∷ hs)))) (codes " = ") (group_text rows hs k)))
-    ∙ sym (append_assoc (codes "%" ++ decimal n) (codes ":" ++ (decimal (length (h ∷ (g ∷ hs))) ++ codes " = ")) (group_text rows hs k))
+    let d = numeral (length (h ∷ (g ∷ hs))) in
+    ap (λ (t : List ℕ). (codes "%" ++ decimal n) ++ (codes ":" ++ (numeral (length (h ∷ (g ∷ hs))) ++ (codes " = " ++ t)))) (group_bytes rows hs k)
+    ∙ ap (λ (t : List ℕ). (codes "%" ++ decimal n) ++ (codes ":" ++ t)) (sym (append_assoc (numeral (length (h ∷ (g ∷ hs)))) (codes " = ") (group_text rows hs k)))
+    ∙ sym (append_assoc (codes "%" ++ decimal n) (codes ":" ++ (numeral (length (h ∷ (g ∷ hs))) ++ codes " = ")) (group_text rows hs k))
 
 lines_bytes : (depth : ℕ) (rows : List Row) (n : ℕ) (ss : List Step) → bytes_of (each_of (lines_at depth rows n ss)).pieces ≡ steps_text depth rows n ss
 lines_bytes depth rows n [] = refl

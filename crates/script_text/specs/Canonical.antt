@@ -1,9 +1,10 @@
 -- The canonical text of a script.
-use Rattle.std.specs.Prelude.{ℕ, zero, suc, List, [], ◌∷◌, ◌++◌, length, None, decimal}
+use Rattle.std.specs.Prelude.{ℕ, zero, suc, List, [], ◌∷◌, ◌++◌, length, None}
 use Rattle.text_format.specs.declared.class.Class.TheVariants.{Name, NewValue, NewValueAt, Number}
 use Rattle.text_format.specs.declared.class.Position.TheVariants as at
 use Rattle.text_format.specs.declared.front.Kind.TheVariants as tokens
 use Rattle.text_format.specs.declared.lexeme.Lexeme.TheVariants.{OpenParenthesis, CloseParenthesis, OpenBrace, CloseBrace, Colon, Equals, NamedSequence, TransformMain, AnyOp, Readonly, TransformYield}
+use Rattle.text_format.specs.Numerals.{numeral}
 use Rattle.text_format.specs.Pieces.{Gap, Fixed, bytes_of}
 use Rattle.text_format.specs.Token.{TokenShape}
 use Rattle.text_format.specs.Writers.{Writer, put, keep, lay, gap, space, lay_after, pair, made, each_of, unbuilt, no_token, ◌▷◌}
@@ -36,7 +37,7 @@ abbrev pub line_at : List Row → ℕ → List HandleId → StepKind → Writer 
 line_at rows n [] k = none_at rows k
 line_at rows n (h ∷ []) k = made (λ x. lines.Named (record { first = x.0; rest = first_rest.Step x.1 })) ▷ pair (result_at n) ▷ space ▷ lay Equals ▷ space ▷ one_at rows k
 line_at rows n (h ∷ (g ∷ hs)) k = made (λ x. lines.Named (record { first = x.0; rest = first_rest.Group (record { count = x.1.0; step = x.1.1 }) })) ▷
-    pair (result_at n) ▷ lay Colon ▷ pair (put Number tokens.Number (decimal (length (h ∷ (g ∷ hs))))) ▷ space ▷ lay Equals ▷ space ▷ group_step_at rows (length hs) k
+    pair (result_at n) ▷ lay Colon ▷ pair (put Number tokens.Number (numeral (length (h ∷ (g ∷ hs))))) ▷ space ▷ lay Equals ▷ space ▷ group_step_at rows (length hs) k
 
 -- the steps, each on a line of its own at this depth
 abbrev pub lines_at : ℕ → List Row → ℕ → List Step → List (Writer Line)

@@ -1,5 +1,6 @@
 -- The names of the canonical text: the root is `%arg0`, and results are `%0`, `%1` in order, where a step's results have one name.
 use Rattle.std.specs.Prelude.{ℕ, ◌+◌, suc, List, [], ◌∷◌, ◌++◌, Option, Some, None, if◌then◌else◌, nat_eq, codes, decimal}
+use Rattle.text_format.specs.Numerals.{numeral}
 use Rattle.text_format.specs.Writers.{unbuilt_text}
 use Rattle.script_read.specs.declared.script.HandleId.{HandleId}
 use Rattle.script_text.specs.declared.names.Given.{Given}
@@ -9,7 +10,7 @@ use Rattle.script_text.specs.declared.names.Row.{Row}
 abbrev pub given_text : Given → List ℕ
 given_text Root = codes "%arg0"
 given_text (Single n) = codes "%" ++ decimal n
-given_text (Part n k) = codes "%" ++ (decimal n ++ (codes "#" ++ decimal k))
+given_text (Part n k) = codes "%" ++ (decimal n ++ (codes "#" ++ numeral k))
 
 abbrev pub row : HandleId → Given → Row
 row h g = record { handle = h.0; name = g }

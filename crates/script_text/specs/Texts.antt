@@ -1,6 +1,7 @@
 -- The bytes of steps, in the order in which they are written (MLIR Transform dialect).
 use Rattle.std.specs.Prelude.{ℕ, zero, suc, ◌+◌, ℤ, List, [], ◌∷◌, ◌++◌, length, Option, Some, None, codes, decimal}
 use Rattle.std.specs.Fmt.{signed_decimal}
+use Rattle.text_format.specs.Numerals.{numeral}
 use Rattle.text_format.specs.Writers.{unbuilt_text}
 use Rattle.script_read.specs.declared.script.HandleId.{HandleId}
 use Rattle.script_read.specs.declared.script.PadArgs.{PadArgs}
@@ -151,7 +152,7 @@ group_text rows more k = unbuilt_text
 abbrev pub results_text : ℕ → List HandleId → List ℕ
 results_text n [] = []
 results_text n (h ∷ []) = given_text (Single n) ++ codes " = "
-results_text n (h ∷ (g ∷ hs)) = given_text (Single n) ++ (codes ":" ++ (decimal (length (h ∷ (g ∷ hs))) ++ codes " = "))
+results_text n (h ∷ (g ∷ hs)) = given_text (Single n) ++ (codes ":" ++ (numeral (length (h ∷ (g ∷ hs))) ++ codes " = "))
 
 abbrev pub kind_text : List Row → List HandleId → StepKind → List ℕ
 kind_text rows [] k = none_text rows k

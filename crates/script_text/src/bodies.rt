@@ -1,6 +1,7 @@
 //! Steps, without their results.
 
 ghost use Rattle.std.specs.Prelude.{◌≡◌, ◌++◌, [], OnOk, decimal};
+ghost use Rattle.text_format.specs.Numerals.{numeral};
 ghost use Rattle.text_format.specs.Writers.{unbuilt_text};
 ghost use Rattle.script_text.specs.Names.{given_text, name_in};
 ghost use Rattle.script_text.specs.Texts.{numbers_text, list_text, value_text, values_text, quoted_text, quoted_texts, to_one_text, to_two_text, both_to_two_text, to_three_text, repeated, to_many_text, match_text, handle_text, sized_text, fuse_text, dims_text, multiples_text, pad_args_text, pad_text, vector_list_text, vector_sizes_text, vectorize_text, split_text, generalize_text, pass_text, interchange_text, tile_for_text, tile_forall_text, pack_text, none_text, one_text, group_text};
@@ -18,12 +19,19 @@ fn write_unbuilt(out: &mut Vec<u8>) -> Result<(), Memory>
     Ok(())
 }
 
-pub fn write_number(out: &mut Vec<u8>, number: u64) -> Result<(), Memory>
+fn write_number(out: &mut Vec<u8>, number: u64) -> Result<(), Memory>
     ensures { OnOk result (out.new.items ≡ out.old.items ++ decimal number) }
 {
     let mut buffer = Buffer::new();
     out.extend_from_slice(buffer.format(number).as_bytes())?;
     Ok(())
+}
+
+/// How many results a step has, or which of them this is.
+pub fn write_count(out: &mut Vec<u8>, count: u64) -> Result<(), Memory>
+    ensures { OnOk result (out.new.items ≡ out.old.items ++ numeral count) }
+{
+    write_number(out, count)
 }
 
 pub fn write_given(out: &mut Vec<u8>, name: Given) -> Result<(), Memory>
@@ -42,7 +50,7 @@ pub fn write_given(out: &mut Vec<u8>, name: Given) -> Result<(), Memory>
             out.extend_from_slice(b"%")?;
             write_number(out, number)?;
             out.extend_from_slice(b"#")?;
-            write_number(out, part)
+            write_count(out, part)
         }
     }
 }

@@ -6,9 +6,7 @@ ghost use Rattle.text_format.specs.Pieces.{bytes_of};
 ghost use Rattle.script_text.specs.Canonical.{sequence_at, text_of};
 ghost use Rattle.script_text.specs.Texts.{results_text, kind_text, step_text, new_line, steps_text, opening_text, closing_text, sequence_text};
 
-use crate::bodies::{
-    write_given, write_group, write_none, write_number, write_one, write_repeated,
-};
+use crate::bodies::{write_count, write_given, write_group, write_none, write_one, write_repeated};
 use crate::names::{Given, Rows, start};
 use payload_ops::{List, Memory};
 use script_read::{HandleId, Script, Step, StepKind};
@@ -28,7 +26,7 @@ fn write_results(out: &mut Vec<u8>, number: u64, results: &[HandleId]) -> Result
         _ => {
             write_given(out, Given::Single(number))?;
             out.extend_from_slice(b":")?;
-            write_number(out, results.len() as u64)?;
+            write_count(out, results.len() as u64)?;
             out.extend_from_slice(b" = ")?;
             Ok(())
         }

@@ -1,6 +1,7 @@
 pub mod Extents
 pub mod Loops
 mod Numbers
+pub mod Numerals
 pub mod Ordered
 pub mod Printed
 pub mod Runs

@@ -5,7 +5,7 @@ use Rattle.text_format.specs.declared.lexeme.Lexeme.{Lexeme}
 use Rattle.text_format.specs.declared.lexeme.Lexeme.TheVariants.{Comma}
 use Rattle.text_format.specs.declared.class.Class.{Class}
 use Rattle.text_format.specs.declared.class.Class.TheVariants.{Exactly}
-use Rattle.text_format.specs.Formats.{State, sees, after_fixed, Format, ◌▸◌, onto, many_in, weight, many_at, list_before}
+use Rattle.text_format.specs.Formats.{State, sees, after_fixed, Format, ◌▸◌, onto, many_in, weight, many_at, list_before, leaf_at, list_with_close}
 use Rattle.text_format.specs.Laws.{Reads, begins}
 use Rattle.text_format.specs.Many.{lighter, many_any, many_none, many_once}
 
@@ -42,3 +42,8 @@ list_closed f close s e = rw e refl
 pub list_open : {A : Type 0} (f : Format A) (close : Lexeme) (s : State) → sees (Exactly close) s ≡ false → (list_before close f).read s ≡ ((list_at f s).0, after_fixed close (list_at f s).1)
 unfolding list_before
 list_open f close s e = rw e refl
+
+pub closed_open : {A : Type 0} (f : Format A) (close : Lexeme) (s : State) → sees (Exactly close) s ≡ false
+    → (list_with_close close f).read s ≡ (((list_at f s).0, (leaf_at (Exactly close) (list_at f s).1).0), (leaf_at (Exactly close) (list_at f s).1).1)
+unfolding list_with_close
+closed_open f close s e = rw e refl

@@ -5,6 +5,8 @@ use Rattle.std.specs.Str.{bytes_eq}
 use Rattle.std.proofs.lemmas.Bool.{cond-true, cond-false, ne_eqb, le-ltb, le-leb, lt-leb, leb-true, and_parts, and_from}
 use Rattle.std.proofs.lemmas.List.{append-nil, drop_at}
 use Rattle.std.proofs.lemmas.Fmt.{decimal_is_IsNumeral}
+use Rattle.text_format.specs.Numerals.{numeral}
+use Rattle.text_format.proofs.Numerals.{numeral_writes, numeral_some}
 use Rattle.std.proofs.lemmas.Str.Parse.{digit_from_value}
 use Rattle.std.specs.Str.Parse.{AllDigits}
 use Rattle.text_format.specs.declared.front.Kind.{Kind}
@@ -122,6 +124,12 @@ decimal_in_digits n s = digits_in classes.Digit (λ b h. h) (decimal n) (decimal
 pub decimal_some : (n : ℕ) → n < 2 ^ 64 → 0 < length (decimal n)
 decimal_some n s = (decimal_is_IsNumeral n s).0.0
 
+pub numeral_in_words : (n : ℕ) → all_in classes.WordByte (numeral n) ≡ true
+numeral_in_words n = digits_in classes.WordByte digit_word (numeral n) (numeral_writes n).0.1
+
+pub numeral_in_digits : (n : ℕ) → all_in classes.Digit (numeral n) ≡ true
+numeral_in_digits n = digits_in classes.Digit (λ b h. h) (numeral n) (numeral_writes n).0.1
+
 pub all_in_append : (c : ByteClass) (xs ys : List ℕ) → all_in c xs ≡ true → all_in c ys ≡ true → all_in c (xs ++ ys) ≡ true
 all_in_append c [] ys a b = b
 all_in_append c (x ∷ xs) ys a b = let p = and_parts (belongs c x) (all_in c xs) a in and_from (belongs c x) (all_in c (xs ++ ys)) p.0 (all_in_append c xs ys p.1 b)
@@ -168,8 +176,8 @@ pub result_name : (n : ℕ) → n < 2 ^ 64 → IsName Value (codes "%" ++ decima
 result_name n s = value_name (decimal n) (decimal_some n s) (decimal_in_values n s)
 
 -- %12#3
-pub result_part_name : (n k : ℕ) → n < 2 ^ 64 → k < 2 ^ 64 → IsName Value (codes "%" ++ (decimal n ++ 35 ∷ decimal k))
-result_part_name n k s l = value_result (decimal n) (decimal k) (decimal_some n s) (decimal_in_values n s) (decimal_some k l) (decimal_in_digits k l)
+pub result_part_name : (n k : ℕ) → n < 2 ^ 64 → IsName Value (codes "%" ++ (decimal n ++ 35 ∷ numeral k))
+result_part_name n k s = value_result (decimal n) (numeral k) (decimal_some n s) (decimal_in_values n s) (numeral_some k) (numeral_in_digits k)
 
 -- ---- # @ ^ and !
 
@@ -203,8 +211,8 @@ pub first_map_name : IsName Alias (codes "#map")
 first_map_name = alias_name 109 (codes "ap") refl refl
 
 -- #map3
-pub map_name : (n : ℕ) → n < 2 ^ 64 → IsName Alias (codes "#map" ++ decimal n)
-map_name n s = alias_name 109 (codes "ap" ++ decimal n) refl (decimal_in_words n s)
+pub map_name : (n : ℕ) → IsName Alias (codes "#map" ++ numeral n)
+map_name n = alias_name 109 (codes "ap" ++ numeral n) refl (numeral_in_words n)
 
 -- ^bb0
 pub block_number_name : (n : ℕ) → n < 2 ^ 64 → IsName Block (codes "^bb" ++ decimal n)
@@ -238,8 +246,8 @@ pub integer_type_name : (n : ℕ) → n < 2 ^ 64 → IsName Word (105 ∷ decima
 integer_type_name n s = word_name 105 (decimal n) refl refl refl (λ rest. refl) (decimal_in_words n s)
 
 -- d0
-pub dimension_name : (n : ℕ) → n < 2 ^ 64 → IsName Word (100 ∷ decimal n)
-dimension_name n s = word_name 100 (decimal n) refl refl refl (λ rest. refl) (decimal_in_words n s)
+pub dimension_name : (n : ℕ) → IsName Word (100 ∷ numeral n)
+dimension_name n = word_name 100 (numeral n) refl refl refl (λ rest. refl) (numeral_in_words n)
 
 -- s0
 pub symbol_dimension_name : (n : ℕ) → n < 2 ^ 64 → IsName Word (115 ∷ decimal n)
@@ -331,6 +339,9 @@ number_name (d ∷ ds) some a = record {
       cond-false (is_blank d) _ _ n.0 ∙ cond-false (d == 47) _ _ n.1 ∙ cond-false (is_letter d) _ _ n.2 ∙ cond-true (is_digit d) _ _ p.0
       ∙ ap (λ m. fronts.Token Number (m + 1)) (run_stops classes.Digit stop_digit ds rest p.1 s) ∙ ap (fronts.Token Number) k;
 }
+
+pub numeral_name : (n : ℕ) → IsName Number (numeral n)
+numeral_name n = number_name (numeral n) (numeral_some n) (numeral_in_digits n)
 
 pub decimal_name : (n : ℕ) → n < 2 ^ 64 → IsName Number (decimal n)
 decimal_name n s = number_name (decimal n) (decimal_some n s) (decimal_in_digits n s)

@@ -183,3 +183,21 @@ list_parts (x ∷ xs) = inr (x, xs)
 -- any number between commas, up to the closing token
 unfoldable pub list_before : {A : Type 0} → Lexeme → Format A → Format (List A)
 list_before close f = as_record list_made list_parts (either (Exactly close) (only close) (f ⊗ others_before close f))
+
+-- ---- lists with their closing token
+
+-- any number, each behind a comma, and the closing token
+abbrev pub others_with : {A : Type 0} → Lexeme → Format A → Format (List A × TokenShape)
+others_with close f = many (Exactly Comma) (Comma ▸ f) (leaf (Exactly close))
+
+abbrev pub closed_made : {A : Type 0} → TokenShape ⊎ (A × (List A × TokenShape)) → List A × TokenShape
+closed_made (inl t) = ([], t)
+closed_made (inr x) = (x.0 ∷ x.1.0, x.1.1)
+
+abbrev pub closed_parts : {A : Type 0} → List A → TokenShape → TokenShape ⊎ (A × (List A × TokenShape))
+closed_parts [] t = inl t
+closed_parts (x ∷ xs) t = inr (x, (xs, t))
+
+-- any number between commas, and the closing token
+unfoldable pub list_with_close : {A : Type 0} → Lexeme → Format A → Format (List A × TokenShape)
+list_with_close close f = as_record closed_made (λ y. closed_parts y.0 y.1) (either (Exactly close) (leaf (Exactly close)) (f ⊗ others_with close f))

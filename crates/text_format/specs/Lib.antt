@@ -8,6 +8,7 @@ pub mod Laws
 pub mod Lexemes
 pub mod Many
 pub mod Nested
+pub mod Numerals
 pub mod Open
 pub mod Parsing
 pub mod Pieces

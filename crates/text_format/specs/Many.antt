@@ -8,10 +8,10 @@ use Rattle.text_format.specs.declared.class.Class.{Class}
 use Rattle.text_format.specs.declared.class.Class.TheVariants.{Exactly}
 use Rattle.text_format.specs.Token.{TokenShape}
 use Rattle.text_format.specs.Classes.{missing}
-use Rattle.text_format.specs.Formats.{State, Stop, Item, Fixed, Leaf, live, sees_by, sees, Format, only, ◌⊗◌, as_record, ◌▸◌, spell_either, first_read, second_read, either, spell_some, some_read, optional_at, optional, spell_many, onto, many_in, weight_by, weight, many_at, many, others_before, list_made, list_parts, list_before}
+use Rattle.text_format.specs.Formats.{State, Stop, Item, Fixed, Leaf, live, leaf, sees_by, sees, Format, only, ◌⊗◌, as_record, ◌▸◌, spell_either, first_read, second_read, either, spell_some, some_read, optional_at, optional, spell_many, onto, many_in, weight_by, weight, many_at, many, others_before, list_made, list_parts, list_before, others_with, closed_made, closed_parts, list_with_close}
 use Rattle.text_format.specs.Laws.{Matches, ConsumesFrom, ConsumesBy, Consumes, Reads, IsExact, begins, avoids}
 use Rattle.text_format.specs.Apart.{fixed_fits, begins_sees, avoids_sees, nonempty, avoids_front}
-use Rattle.text_format.specs.Exact.{nothing, one_then, split, fronts, none_read, forward_by, goes_forward, read_front, only-exact, ◌⊠◌, ◌▹◌, record-exact, either-exact}
+use Rattle.text_format.specs.Exact.{nothing, one_then, split, fronts, none_read, forward_by, goes_forward, read_front, only-exact, leaf-exact, ◌⊠◌, ◌▹◌, record-exact, either-exact}
 
 -- ---- reading an item takes a token
 
@@ -245,6 +245,21 @@ unfolding list_before
 list-exact close {f} p first apart =
     record-exact list_made list_parts (either (Exactly close) (only close) (f ⊗ others_before close f)) list_back list_forth
     (either-exact (Exactly close) (only-exact close) (p ⊠ others-exact close p apart) (λ u. fixed_fits close (missing (Exactly close) 0) (refl, refl)) (λ x. avoids_append (Exactly close) (f.spell x.0) ((others_before close f).spell x.1) (first x.0)))
+
+closed_back : {A : Type 0} (z : TokenShape ⊎ (A × (List A × TokenShape))) → closed_parts (closed_made z).0 (closed_made z).1 ≡ z
+closed_back (inl t) = refl
+closed_back (inr x) = refl
+
+closed_forth : {A : Type 0} (xs : List A) (t : TokenShape) → closed_made (closed_parts xs t) ≡ (xs, t)
+closed_forth [] t = refl
+closed_forth (x ∷ xs) t = refl
+
+pub list_with_close-exact : {A : Type 0} (close : Lexeme) {f : Format A} → IsExact f → ((x : A) → avoids (Exactly close) (f.spell x) ≡ true) → avoids (Exactly Comma) (Fixed close ∷ []) ≡ true → IsExact (list_with_close close f)
+unfolding list_with_close
+list_with_close-exact close {f} p first apart =
+    record-exact closed_made (λ y. closed_parts y.0 y.1) (either (Exactly close) (leaf (Exactly close)) (f ⊗ others_with close f)) closed_back (λ y. closed_forth y.0 y.1)
+    (either-exact (Exactly close) (leaf-exact (Exactly close)) (p ⊠ many-exact (Exactly Comma) (Comma ▹ p) (leaf-exact (Exactly close)) (λ x. refl) (λ y. apart))
+    (λ u. fixed_fits close (missing (Exactly close) 0) (refl, refl)) (λ x. avoids_append (Exactly close) (f.spell x.0) ((others_with close f).spell x.1) (first x.0)))
 
 -- ---- how a choice begins
 

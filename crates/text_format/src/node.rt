@@ -1,12 +1,13 @@
 //! Trees that are read.
 
 ghost use Rattle.std.specs.Prelude.{◌≡◌, IfOk, true};
-ghost use Rattle.text_format.specs.Formats.{Format, optional_at, many_at, list_before};
+ghost use Rattle.text_format.specs.Formats.{Format, optional_at, many_at, list_before, list_with_close};
 ghost use Rattle.text_format.specs.Laws.{Reads, IsExact, begins};
 
 use crate::class::Class;
 use crate::lexeme::Lexeme;
 use crate::parser::Parser;
+use crate::token::Token;
 use payload_ops::{List, Memory};
 use std::alloc::Global;
 
@@ -112,4 +113,29 @@ pub fn list<'a, N: Node<'a>>(
     }
     parser.fixed(close);
     Ok(items)
+}
+
+/// Items between commas, maybe none, with the closing token.
+#[tactic(auto, unfolding(crate::specs::Formats::list_with_close))]
+pub fn list_with_close<'a, N: Node<'a>>(
+    alloc: Global,
+    parser: &mut Parser<'a>,
+    close: Lexeme,
+) -> Result<(List<N>, Token<'a>), Memory>
+    ensures { IfOk result (λ xs. (xs, parser.new) ≡ (list_with_close close N.format).read parser.old) }
+{
+    let mut items = List::new(alloc);
+    if parser.sees(Class::Exactly(close)) {
+        let token = parser.leaf(Class::Exactly(close));
+        return Ok((items, token));
+    }
+    let first = N::read(alloc, parser)?;
+    items.push(first)?;
+    while parser.sees(Class::Exactly(Lexeme::Comma)) {
+        parser.fixed(Lexeme::Comma);
+        let item = N::read(alloc, parser)?;
+        items.push(item)?;
+    }
+    let token = parser.leaf(Class::Exactly(close));
+    Ok((items, token))
 }

@@ -10,7 +10,8 @@ use crate::tree::{
 use payload_ops::Memory;
 use std::alloc::Global;
 use text_format::{
-    Class, Lexeme, Node, OpenNode, OpenTree, Parser, Position, Tree, list, optional,
+    Class, Lexeme, Node, OpenNode, OpenTree, Parser, Position, Tree, list, list_with_close,
+    optional,
 };
 
 impl<'a> Tree for ConstantStep<'a> {
@@ -195,8 +196,12 @@ impl<'a> Node<'a> for ApplySymbols<'a> {
     #[tactic(auto, unfolding(crate::specs::Steps::apply_symbols))]
     fn read(alloc: Global, parser: &mut Parser<'a>) -> Result<ApplySymbols<'a>, Memory> {
         parser.fixed(Lexeme::OpenBracket);
-        let operands = list::<ApplyOperand>(alloc, parser, Lexeme::CloseBracket)?;
-        Ok(ApplySymbols { operands })
+        let (operands, close) = list_with_close::<ApplyOperand>(
+            alloc,
+            parser,
+            Lexeme::CloseBracket,
+        )?;
+        Ok(ApplySymbols { operands, close })
     }
 }
 

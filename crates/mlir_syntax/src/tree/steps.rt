@@ -80,6 +80,7 @@ pub struct ApplyOperand<'a> {
 #[derive(Drop)]
 pub struct ApplySymbols<'a> {
     pub operands: List<ApplyOperand<'a>>,
+    pub close: Token<'a>,
 }
 
 /// `affine.apply map(%a, %b)[%c]`

@@ -9,10 +9,10 @@ pub returns-clause-text : goal.returns-clause-text
 returns-clause-text c = map_bytes
 
 pub returns-clause-spaced : goal.returns-clause-spaced
-returns-clause-spaced _ c m rest i d = map_spaced c m i d rest
+returns-clause-spaced _ c m rest i = map_spaced c m i rest
 
 pub returns-clause-tree : goal.returns-clause-tree
 returns-clause-tree c = map_spelled
 
 pub returns-clause-means : goal.returns-clause-means
-returns-clause-means _ c m at symbols i s = (map_fits c at m symbols i s, map_means c at m i s)
+returns-clause-means _ c m at symbols i = (map_fits c at m symbols i, map_means c at m i)

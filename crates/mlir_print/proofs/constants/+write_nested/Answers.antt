@@ -1,5 +1,5 @@
 use Rattle.std.proofs.Common.{◌≡◌, ◌∙◌, ◌++◌, ◌∷◌, [], ◌-◌, ◌+◌, ◌*◌, ap, sym, refl, append_assoc, drop, arith}
-use Rattle.mlir_resolve.specs.Types.{elements}
+use Rattle.mlir_scope.specs.Types.{elements}
 use Rattle.mlir_print.specs.Constants.{nested_words, items_words, words_text}
 use Rattle.mlir_print.proofs.Nested.{others, before_at, nested_is, elements_is, items_step, items_done, rest_step, rest_done, before_comma, regroup}
 use Rattle.mlir_print.proofs.constants.+write_nested.Goals as goal

@@ -1,5 +1,5 @@
 use Rattle.std.proofs.Common.{◌≡◌, ◌++◌, ◌-◌, ◌*◌, drop, length, codes}
-use Rattle.mlir_resolve.specs.Types.{elements}
+use Rattle.mlir_scope.specs.Types.{elements}
 use Rattle.mlir_print.specs.Constants.{items_words, nested_words, words_text}
 use Rattle.mlir_print.proofs.Nested.{before_at}
 use Rattle.mlir_print.proofs.constants.+write_nested.Given as goal

@@ -1,4 +1,4 @@
-use Rattle.std.proofs.Common.{◌≡◌, ◌++◌, ◌∙◌, append_assoc}
+use Rattle.std.proofs.Common.{◌∙◌, append_assoc}
 use Rattle.mlir_print.proofs.payloads.write_index.Goals as goal
 
 pub returns : goal.returns

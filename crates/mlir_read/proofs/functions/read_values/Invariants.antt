@@ -1,6 +1,6 @@
 use Rattle.std.proofs.Common.{◌≡◌, drop}
 use Rattle.mlir_lex.specs.Chain.{each}
-use Rattle.mlir_resolve.specs.Scope.{value_id}
+use Rattle.mlir_scope.specs.Scope.{value_id}
 use Rattle.mlir_read.specs.Resolve.{value_ids}
 use Rattle.mlir_lex.proofs.Loops.{onto}
 use Rattle.mlir_read.proofs.functions.read_values.Given as goal

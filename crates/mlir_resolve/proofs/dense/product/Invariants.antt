@@ -1,5 +1,5 @@
 use Rattle.std.proofs.Common.{◌≡◌, ◌*◌, drop}
-use Rattle.mlir_resolve.specs.Types.{elements}
+use Rattle.mlir_scope.specs.Types.{elements}
 use Rattle.mlir_resolve.proofs.dense.product.Given as goal
 
 abbrev pub invariant-loop-extent : goal.invariant-loop-extent

@@ -1,6 +1,6 @@
 use Rattle.std.proofs.Common.{◌≡◌, drop}
 use Rattle.mlir_lex.specs.Chain.{each}
-use Rattle.mlir_resolve.specs.Maps.{map_of}
+use Rattle.mlir_scope.specs.Maps.{map_of}
 use Rattle.mlir_lex.proofs.Loops.{onto}
 use Rattle.mlir_resolve.proofs.generics.read_maps.Given as goal
 

@@ -1,4 +1,4 @@
-use Rattle.std.proofs.Common.{length, List, Ok, subst, ap, sym, ◌∙◌}
+use Rattle.std.proofs.Common.{length, subst, ap}
 use Rattle.mlir_lex.specs.Chain.{Fails}
 use Rattle.mlir_resolve.specs.Generics.{typed_inputs, typed_output}
 use Rattle.mlir_lex.proofs.Loops.{fails_first, fails_then}

@@ -1,7 +1,5 @@
-use Rattle.std.proofs.Common.{Ok}
-use Rattle.text_format.specs.Token.{TokenShape}
-use Rattle.mlir_resolve.specs.Operations.{room, name_in, kind_of}
-use Rattle.mlir_resolve.proofs.Keeps.{then_ok}
+use Rattle.mlir_resolve.specs.Operations.{room, name_in}
+use Rattle.mlir_scope.proofs.Keeps.{then_ok}
 use Rattle.mlir_resolve.proofs.Results.{kind_fits}
 use Rattle.mlir_resolve.proofs.operations.read_statement.Goals as goal
 

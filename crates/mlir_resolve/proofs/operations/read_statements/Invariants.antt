@@ -1,6 +1,6 @@
 use Rattle.std.proofs.Common.{◌≡◌, drop}
 use Rattle.mlir_lex.specs.Chain.{thread}
-use Rattle.mlir_resolve.specs.Scope.{IsSound}
+use Rattle.mlir_scope.specs.Scope.{IsSound}
 use Rattle.mlir_resolve.specs.Operations.{statement_of, statements_of}
 use Rattle.mlir_lex.proofs.Loops.{onto_with}
 use Rattle.mlir_resolve.proofs.operations.read_statements.Given as goal

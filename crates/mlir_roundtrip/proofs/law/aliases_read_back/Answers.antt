@@ -12,4 +12,4 @@ pub returns-clause-defined : goal.returns-clause-defined
 returns-clause-defined c = λ s n m at new p. line_found s n m new p at
 
 pub returns-clause-used : goal.returns-clause-used
-returns-clause-used c = λ al m at h a p few. use_found al m h a p few at
+returns-clause-used c = λ al m at h a p. use_found al m h a p at

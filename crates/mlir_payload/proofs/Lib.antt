@@ -1,0 +1,3 @@
+pub mod Applied
+pub mod Fitting
+pub mod StillNew

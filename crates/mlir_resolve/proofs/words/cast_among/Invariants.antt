@@ -1,6 +1,0 @@
-use Rattle.std.proofs.Common.{◌≡◌, drop}
-use Rattle.mlir_resolve.specs.Words.{first_named, cast_text}
-use Rattle.mlir_resolve.proofs.words.cast_among.Given as goal
-
-abbrev pub invariant-loop-cast : goal.invariant-loop-cast
-invariant-loop-cast l = first_named cast_text l.text (drop l.cast-index l.casts) ≡ first_named cast_text l.text l.casts
