@@ -1,5 +1,5 @@
 -- The maps of linear steps.
-use Rattle.std.proofs.Common.{◌≡◌, ◌≤◌, ℕ, ◌+◌, suc, ℤ, true, ◌&&◌, List, [], ◌∷◌, ◌++◌, length, Option, refl, subst, arith}
+use Rattle.std.proofs.Common.{◌≡◌, ◌≤◌, ℕ, ◌+◌, suc, ℤ, true, ◌&&◌, List, [], ◌∷◌, ◌++◌, length, Option, refl, subst, arith, Some, None, IsSome, IfSome, ap, ◌∙◌}
 use Rattle.std.specs.List.{list_all}
 use Rattle.std.proofs.lemmas.Bool.{and_parts, and_from, le-leb, lt-ltb}
 use Rattle.payload_ops.specs.Numbers.{is_in_range, is_coefficient}
@@ -11,6 +11,7 @@ use Rattle.payload_ops.specs.declared.step.StepOp.TheVariants as ops
 use Rattle.payload_ops.specs.declared.step.PayloadStep.{PayloadStep}
 use Rattle.payload_ops.specs.Shape.{PayloadShape}
 use Rattle.payload_ops.specs.Payload.{is_elem, arg_type, has_type, term_fits, op_fits, steps_fit, payload_fits}
+use Rattle.affine_maps.specs.declared.map.Expr.{Expr}
 use Rattle.affine_maps.specs.Shape.{MapShape}
 use Rattle.affine_maps.specs.Map.{terms_fit, IsMap}
 use Rattle.mlir_print.specs.Maps.{linear_terms, linear_map, has_map_numbers}
@@ -60,3 +61,18 @@ linear_is_map c ts h =
 pub texts_append : (ts : List (List ℕ)) (xs ys : List MapShape) → with_texts ts (xs ++ ys) ≡ with_texts (with_texts ts xs) ys
 texts_append ts [] ys = refl
 texts_append ts (x ∷ xs) ys = texts_append (with_text ts (text_of_map x)) xs ys
+
+-- ---- the map of a step's terms
+
+made_map : (o : Option MapShape) (m : MapShape) → (IsMap m → IsSome o) → IfSome o (λ x. x ≡ m) → IsMap m → o ≡ Some m
+made_map None m v e h = absurd (cc (v h))
+made_map (Some x) m v e h = ap (λ (y : MapShape). Some y) e
+
+abbrev shape : ℕ → List Expr → MapShape
+shape dims results = record { dims = dims; results = results }
+
+pub linear_made : (o : Option MapShape) (dims : ℕ) (results : List Expr) (c : ℤ) (ts : List (Arg × ℤ)) → dims ≡ length ts → results ≡ record { constant = c; terms = linear_terms 0 ts } ∷ [] → (IsMap (shape dims results) → IsSome o)
+    → IfSome o (λ m. m ≡ shape dims results) → has_map_numbers (ops.Linear c ts) ≡ true → o ≡ Some (linear_map c ts)
+linear_made o dims results c ts d r valid value h =
+    let e : shape dims results ≡ linear_map c ts = ap (λ (n : ℕ). shape n results) d ∙ ap (shape (length ts)) r in
+    made_map o (linear_map c ts) (subst (λ (m : MapShape). IsMap m → IsSome o) e valid) (subst (λ (m : MapShape). IfSome o (λ x. x ≡ m)) e value) (linear_is_map c ts h)

@@ -1,6 +1,6 @@
 //! Maps and their aliases.
 
-ghost use Rattle.std.specs.Prelude.{◌≡◌, ◌++◌, [], map, IfOk, OnOk, decimal};
+ghost use Rattle.std.specs.Prelude.{◌≡◌, ◌++◌, [], map, IfOk, OnOk};
 ghost use Rattle.affine_text.specs.Text.{text_of_map};
 ghost use Rattle.text_format.specs.Numerals.{numeral};
 ghost use Rattle.mlir_print.specs.Maps.{alias_text};
@@ -82,18 +82,12 @@ fn write_alias_lines(out: &mut Vec<u8>, texts: &[Vec<u8>]) -> Result<(), Memory>
     Ok(())
 }
 
-fn write_number(out: &mut Vec<u8>, number: u64) -> Result<(), Memory>
-    ensures { OnOk result (out.new.items ≡ out.old.items ++ decimal number) }
+fn write_alias_number(out: &mut Vec<u8>, number: u64) -> Result<(), Memory>
+    ensures { OnOk result (out.new.items ≡ out.old.items ++ numeral number) }
 {
     let mut buffer = Buffer::new();
     out.extend_from_slice(buffer.format(number).as_bytes())?;
     Ok(())
-}
-
-fn write_alias_number(out: &mut Vec<u8>, number: u64) -> Result<(), Memory>
-    ensures { OnOk result (out.new.items ≡ out.old.items ++ numeral number) }
-{
-    write_number(out, number)
 }
 
 fn write_alias(out: &mut Vec<u8>, number: u64) -> Result<(), Memory>

@@ -1,6 +1,6 @@
 //! Linear steps, each of which has a map.
 
-ghost use Rattle.std.specs.Prelude.{◌≡◌, ◌<◌, ◌^◌, ◌++◌, ◌∷◌, [], length, IfOk, OnOk, IsTrue};
+ghost use Rattle.std.specs.Prelude.{◌≡◌, ◌<◌, ◌^◌, ◌++◌, ◌∷◌, [], length, IfOk, OnOk, IsTrue, Some};
 ghost use Rattle.std.specs.List.{list_all};
 ghost use Rattle.payload_ops.specs.declared.step.StepOp.TheVariants.{Linear};
 ghost use Rattle.mlir_print.specs.Maps.{linear_terms, linear_map, has_map_numbers, op_maps, steps_maps};
@@ -33,19 +33,32 @@ fn one_result(alloc: Global, constant: i64, terms: List<(u32, i64)>) -> Result<L
     Ok(all)
 }
 
+/// The map of fewer than 2^32 terms. There is one, since the step's numbers are those of a map.
+fn map_of_terms(
+    alloc: Global,
+    constant: i64,
+    terms: &[(Arg, i64)],
+) -> Result<Option<AffineMap>, Memory>
+    requires few { length terms.now < 2 ^ 32 }
+    requires numbers { IsTrue (has_map_numbers (Linear constant terms.now)) }
+    ensures { IfOk result (λ map. map ≡ Some (linear_map constant terms.now)) }
+{
+    let dims = terms.len() as u32;
+    let terms = linear_terms(alloc, terms)?;
+    let results = one_result(alloc, constant, terms)?;
+    Ok(AffineMap::new(dims, results))
+}
+
 /// The map of a linear step: one dimension for each term, and one result. A map of 2^32 dimensions or
 /// more, which 32 bits can't number, is told as want of memory.
 pub fn linear_map(alloc: Global, constant: i64, terms: &[(Arg, i64)]) -> Result<AffineMap, Memory>
     requires { IsTrue (has_map_numbers (Linear constant terms.now)) }
     ensures { IfOk result (λ map. map ≡ linear_map constant terms.now) }
 {
-    let dims = terms.len();
-    if dims >= 1 << 32 {
+    if terms.len() >= 1 << 32 {
         return Err(Memory);
     }
-    let terms = linear_terms(alloc, terms)?;
-    let results = one_result(alloc, constant, terms)?;
-    match AffineMap::new(dims as u32, results) {
+    match map_of_terms(alloc, constant, terms)? {
         Some(map) => Ok(map),
         None => Err(Memory),
     }
