@@ -12,7 +12,7 @@ pub enum Fault {
 }
 
 /// What a function gives on its inputs.
-#[derive(Debug, Drop)]
+#[derive(Drop)]
 pub enum Answer {
     Results(List<Tensor>),
     Fails(Fault),
