@@ -1,10 +1,10 @@
 ghost use Rattle.std.specs.Prelude.{◌≤◌, IfOk};
 
+use mlir_base::{List, Memory, Name};
 use mlir_streams::{
     CleanShelf, CleanSink, Failed, FetchError, HostShelf, HostSink, MemShelf, MemSink, OpenError,
     Shelf, Sink, WriteError, read_whole, write_whole,
 };
-use payload_ops::{List, Memory, Name};
 use std::alloc::Global;
 use std::io::{ErrorKind, Read, Write};
 use std::test::Fail;
@@ -33,7 +33,11 @@ fn files(alloc: Global) -> Result<List<(Name, List<u8>)>, Memory> {
 }
 
 // Standard input as a shelf gives it, of at most so many bytes.
-fn standard_input<S: Shelf>(alloc: Global, shelf: &mut S, limit: usize) -> Result<Vec<u8>, FetchError>
+fn standard_input<S: Shelf>(
+    alloc: Global,
+    shelf: &mut S,
+    limit: usize,
+) -> Result<Vec<u8>, FetchError>
     requires { limit < 2 ^ 32 }
 {
     match shelf.open_file("") {
@@ -149,7 +153,10 @@ fn an_interrupted_call_is_tried_again(rt: HostRuntime) -> Result<(), Fail> {
         assert!(rt; buf[..moved].iter().all(|byte| *byte == b'a'));
         assert!(rt; buf[moved..].iter().all(|byte| *byte == b'-'));
         let mut sink = HostSink::new(Unsteady { interrupted, piece });
-        assert!(rt; sink.write(b"abcd") == written, "at {interrupted} {piece:?}");
+        assert!(rt;
+            sink.write(b"abcd") == written,
+            "at {interrupted} {piece:?}"
+        );
     }
     Ok(())
 }

@@ -72,7 +72,10 @@ fn other_words_are_refused(rt: HostRuntime) -> Result<(), Fail> {
         "-- a.mlir b.mlir",
     ] {
         let words = words_of(alloc, line)?;
-        assert!(rt; read_words(alloc, &words) == Err(WordsError::Words), "at {line}");
+        assert!(rt;
+            read_words(alloc, &words) == Err(WordsError::Words),
+            "at {line}"
+        );
     }
     Ok(())
 }

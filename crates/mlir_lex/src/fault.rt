@@ -4,12 +4,11 @@ ghost use Rattle.std.specs.Prelude.{◌≡◌};
 ghost use Rattle.mlir_lex.specs.Faults.{reach_of, fault_error, stop_by};
 
 use crate::read_error::ReadError;
-use mlir_ir::Which;
-use payload_ops::Memory;
+use mlir_base::{Memory, Which};
 use text_format::{Reason, Stopped};
 
 /// A fault of a tree's names, types or numbers, with the place of its token.
-#[derive(Clone, Copy, Debug)]
+#[derive(Clone, Copy)]
 pub enum Fault {
     /// A list has more or fewer entries than its partner: at the surplus comma or the early closer.
     Syntax(u32),
@@ -60,7 +59,7 @@ impl Fault {
 }
 
 /// Why a tree isn't resolved.
-#[derive(Clone, Copy, Debug)]
+#[derive(Clone, Copy)]
 pub enum Refused {
     At(Fault),
     Memory,

@@ -1,5 +1,5 @@
+use mlir_base::List;
 use mlir_ir::Tensor;
-use payload_ops::List;
 
 /// Why a run gives no tensors.
 #[derive(Clone, Copy, Debug, PartialEq, Eq)]
@@ -12,7 +12,7 @@ pub enum Fault {
 }
 
 /// What a function gives on its inputs.
-#[derive(Debug, Drop)]
+#[derive(Drop)]
 pub enum Answer {
     Results(List<Tensor>),
     Fails(Fault),

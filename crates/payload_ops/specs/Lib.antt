@@ -1,10 +1,6 @@
 pub mod Bits
 pub mod Combine
 pub mod Evaluation
-pub mod Known
-pub mod Laws
-pub mod Numbers
 pub mod Payload
 pub mod Shape
 pub mod Values
-pub mod formers

@@ -1,16 +1,15 @@
 ghost use Rattle.std.specs.Prelude.{◌≡◌};
 ghost use Rattle.payload_ops.specs.Payload.{IsPayload};
 
-use crate::kinds::ElemTy;
-use crate::list::List;
 use crate::step::{Arg, PayloadStep};
+use mlir_base::{ElemTy, List};
 use std::marker::Model;
 
 pub mod parts;
 
 /// What a `linalg.generic` computes at one point, from one element of each input and of its output
 /// (Linalg manual, "linalg.generic"). `payload` makes one, and so its steps fit.
-#[derive(Debug, Drop)]
+#[derive(Drop)]
 pub struct Payload {
     ins: List<ElemTy>,
     out: ElemTy,
