@@ -1,35 +1,41 @@
 ghost use Rattle.std.specs.Prelude.{◌≤◌, IfOk};
 
-use mlir_base::{List, Memory, Name};
+use mlir_base::{List, Name};
 use mlir_streams::{
     CleanShelf, CleanSink, Failed, FetchError, HostShelf, HostSink, MemShelf, MemSink, OpenError,
     Shelf, Sink, WriteError, read_whole, write_whole,
 };
-use std::alloc::Global;
+use std::alloc::{AllocError, Global};
 use std::io::{ErrorKind, Read, Write};
 use std::test::Fail;
 use std::{fs, io};
 
-fn bytes_of(alloc: Global, text: &str) -> Result<List<u8>, Memory> {
-    let mut bytes = List::new(alloc);
-    for byte in text.as_bytes() {
-        bytes.push(*byte)?;
-    }
-    Ok(bytes)
+fn bytes_of(alloc: Global, text: &str) -> Result<List<u8>, AllocError> {
+    let mut bytes = Vec::new(alloc);
+    bytes.extend_from_slice(text.as_bytes())?;
+    Ok(List::from_vec(bytes))
 }
 
-fn numbers(alloc: Global, number: u32) -> Result<List<u32>, Memory> {
-    let mut all = List::new(alloc);
+fn numbers(alloc: Global, number: u32) -> Result<List<u32>, AllocError> {
+    let mut all = Vec::new(alloc);
     all.push(number)?;
-    Ok(all)
+    Ok(List::from_vec(all))
+}
+
+// A file of this name.
+fn file(alloc: Global, name: &str, text: &str) -> Result<(Name, List<u8>), AllocError> {
+    match Name::new(alloc, name) {
+        Ok(name) => Ok((name, bytes_of(alloc, text)?)),
+        Err(_) => Err(AllocError),
+    }
 }
 
 // Standard input holds `abcdef`.
-fn files(alloc: Global) -> Result<List<(Name, List<u8>)>, Memory> {
-    let mut all = List::new(alloc);
-    all.push((Name::new(alloc, "other")?, bytes_of(alloc, "xyz")?))?;
-    all.push((Name::new(alloc, "")?, bytes_of(alloc, "abcdef")?))?;
-    Ok(all)
+fn files(alloc: Global) -> Result<List<(Name, List<u8>)>, AllocError> {
+    let mut all = Vec::new(alloc);
+    all.push(file(alloc, "other", "xyz")?)?;
+    all.push(file(alloc, "", "abcdef")?)?;
+    Ok(List::from_vec(all))
 }
 
 // Standard input as a shelf gives it, of at most so many bytes.
@@ -51,7 +57,7 @@ fn standard_input<S: Shelf>(
 // How reading standard input ends.
 fn end_of(read: &Result<Vec<u8>, FetchError>) -> &str {
     match read {
-        Ok(text) if text.as_slice() == b"abcdef" => "whole",
+        Ok(text) if text.as_slice() == b"abcdef".as_slice() => "whole",
         Ok(_) => "part",
         Err(FetchError::Limit) => "limit",
         Err(FetchError::Failed) => "failed",
@@ -93,7 +99,7 @@ fn fakes_fail_where_they_are_told_to(rt: HostRuntime) -> Result<(), Fail> {
     let read = standard_input(alloc, &mut shelf, 6);
     assert!(rt; end_of(&read) == "whole");
     let mut sink = CleanSink::new(alloc);
-    assert!(rt; sink.write(b"ab") == Ok(2) && sink.bytes() == b"ab");
+    assert!(rt; sink.write(b"ab") == Ok(2) && sink.bytes() == b"ab".as_slice());
     Ok(())
 }
 
@@ -172,7 +178,7 @@ fn real_files_are_written_and_read(rt: HostRuntime) -> Result<(), Fail> {
     assert!(rt; shelf.open_file(name) == Ok(()));
     let read = read_whole(rt.alloc(), &mut shelf, 4);
     fs::remove_file(&rt, name)?;
-    assert!(rt; matches!(&read, Ok(text) if text.as_slice() == b"real"));
+    assert!(rt; matches!(&read, Ok(text) if text.as_slice() == b"real".as_slice()));
     assert!(rt; shelf.open_file(name) == Err(OpenError::Absent));
     // A directory opens, and its reads fail.
     let mut buf = [0u8; 4];
