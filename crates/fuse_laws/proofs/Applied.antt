@@ -11,11 +11,11 @@ use Rattle.affine_maps.specs.Value.{coordinate, weighted_sum, value_at}
 use Rattle.affine_maps.specs.declared.map.Expr.{Expr}
 use Rattle.affine_maps.proofs.Integers.{add_over_mul, mul_assoc}
 use Rattle.payload_ops.specs.Bits.{reduce}
-use Rattle.payload_ops.specs.Numbers.{is_coefficient}
+use Rattle.mlir_base.specs.Numbers.{is_coefficient}
 use Rattle.payload_ops.specs.Payload.{has_type, term_fits, steps_fit}
 use Rattle.payload_ops.specs.Shape.{PayloadShape}
 use Rattle.payload_ops.specs.Values.{Given, arg_value, terms_sum, op_value, steps_values}
-use Rattle.payload_ops.specs.declared.kinds.ElemTy.TheVariants.{Index as IndexType}
+use Rattle.mlir_base.specs.declared.types.ElemTy.TheVariants.{Index as IndexType}
 use Rattle.payload_ops.specs.declared.step.Arg.TheVariants.{Step}
 use Rattle.payload_ops.specs.declared.step.PayloadStep.{PayloadStep}
 use Rattle.payload_ops.proofs.StepsLemmas.{steps_values-append}

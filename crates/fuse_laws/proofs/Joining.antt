@@ -7,11 +7,12 @@ use Rattle.std.proofs.lemmas.List.{append-nil, length-map, get_or_past}
 use Rattle.std.proofs.lemmas.Option.{none-some, slice_get_within, slice_get-get_or, get_or_from_slice_get}
 use Rattle.affine_maps.specs.Value.{value_at}
 use Rattle.payload_ops.specs.Bits.{reduce}
-use Rattle.payload_ops.specs.Payload.{IsPayload, has_type, is_elem, steps_fit}
+use Rattle.payload_ops.specs.Payload.{IsPayload, has_type, steps_fit}
+use Rattle.mlir_base.specs.Types.{is_elem}
 use Rattle.payload_ops.specs.Shape.{PayloadShape}
 use Rattle.payload_ops.specs.Values.{Given, arg_value, op_value, steps_values, payload_value, is_supplied}
-use Rattle.payload_ops.specs.declared.kinds.ElemTy.{ElemTy}
-use Rattle.payload_ops.specs.declared.kinds.ElemTy.TheVariants.{Int, Index as IndexType}
+use Rattle.mlir_base.specs.declared.types.ElemTy.{ElemTy}
+use Rattle.mlir_base.specs.declared.types.ElemTy.TheVariants.{Int, Index as IndexType}
 use Rattle.payload_ops.specs.declared.step.Arg.{Arg}
 use Rattle.payload_ops.specs.declared.step.Arg.TheVariants.{Input, Out, Step}
 use Rattle.payload_ops.specs.declared.step.PayloadStep.{PayloadStep}

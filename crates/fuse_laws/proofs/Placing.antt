@@ -5,11 +5,12 @@ use Rattle.std.proofs.lemmas.Bool.{and_parts, cases_Bool, true≢false}
 use Rattle.std.proofs.lemmas.Bool.Decides.{nat_tests}
 use Rattle.std.proofs.lemmas.List.{append-nil, get_or_append_left, get_or_at, get_or-map, length-map}
 use Rattle.std.proofs.lemmas.Option.{none-some, slice_get_within}
-use Rattle.payload_ops.specs.Payload.{IsPayload, has_type, is_elem, op_fits, steps_fit}
+use Rattle.payload_ops.specs.Payload.{IsPayload, has_type, op_fits, steps_fit}
+use Rattle.mlir_base.specs.Types.{is_elem}
 use Rattle.payload_ops.specs.Shape.{PayloadShape}
 use Rattle.payload_ops.specs.Values.{Given, arg_value, op_value, steps_values, payload_value}
-use Rattle.payload_ops.specs.declared.kinds.ElemTy.{ElemTy}
-use Rattle.payload_ops.specs.declared.kinds.ElemTy.TheVariants.{Int, Index as IndexType}
+use Rattle.mlir_base.specs.declared.types.ElemTy.{ElemTy}
+use Rattle.mlir_base.specs.declared.types.ElemTy.TheVariants.{Int, Index as IndexType}
 use Rattle.payload_ops.specs.declared.step.Arg.{Arg}
 use Rattle.payload_ops.specs.declared.step.Arg.TheVariants.{Input, Out, Step}
 use Rattle.payload_ops.specs.declared.step.PayloadStep.{PayloadStep}

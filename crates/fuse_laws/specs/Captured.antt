@@ -1,7 +1,8 @@
--- The captured values of a payload: a step for each of them in front, or one for each that is used, right before its first use.
+-- The captured values of a payload: a step for each of them in front, or one for each that is used, right before
+-- its first use.
 use Rattle.std.specs.Prelude.{◌≡◌, ℕ, suc, ◌+◌, ◌-◌, false, not, ◌&&◌, nat_lt, List, [], ◌∷◌, ◌++◌, map, length, slice_index_or, if◌then◌else◌, ⊤}
 use Rattle.payload_ops.specs.Shape.{PayloadShape}
-use Rattle.payload_ops.specs.declared.kinds.ElemTy.{ElemTy}
+use Rattle.mlir_base.specs.declared.types.ElemTy.{ElemTy}
 use Rattle.payload_ops.specs.declared.step.Arg.{Arg}
 use Rattle.payload_ops.specs.declared.step.Arg.TheVariants.{Input, Out, Step}
 use Rattle.payload_ops.specs.declared.step.PayloadStep.{PayloadStep}
@@ -23,9 +24,11 @@ module _ (c : ℕ) (f : ℕ → ℕ) (p : PayloadShape) where
   hoisted_to (Step i) = Step (number_at (numbers own_index f (length fronts) p.steps) i)
 
   abbrev pub hoisted : PayloadShape
-  hoisted = record { ins = p.ins; out = p.out; steps = fronts ++ blocks own_index hoisted_to (length fronts) p.steps; yielded = hoisted_to p.yielded }
+  hoisted = record { ins = p.ins; out = p.out; steps = fronts
+      ++ blocks own_index hoisted_to (length fronts) p.steps; yielded = hoisted_to p.yielded }
 
--- AT THE FIRST USE: from a payload that has a step for each of c captured values in front. `seen` are the captured values that have a step so far.
+-- AT THE FIRST USE: from a payload that has a step for each of c captured values in front. `seen` are the captured
+-- values that have a step so far.
 module _ (c : ℕ) where
   -- the captured value that an argument is, if it has no step yet
   abbrev pub news_of : List ℕ → Arg → List ℕ
@@ -49,29 +52,35 @@ module _ (c : ℕ) where
   -- the numbers of their steps, from n on, and those of the other steps
   abbrev pub spots : ℕ → List ℕ → List PayloadStep → List ℕ
   spots n seen [] = []
-  spots n seen (s ∷ ss) = count_up n (length (named seen s)) ++ spots (suc (n + length (named seen s))) (seen ++ named seen s) ss
+  spots n seen (s ∷ ss) = count_up n (length (named seen s))
+      ++ spots (suc (n + length (named seen s))) (seen ++ named seen s) ss
 
   abbrev pub others : ℕ → List ℕ → List PayloadStep → List ℕ
   others n seen [] = []
-  others n seen (s ∷ ss) = (n + length (named seen s)) ∷ others (suc (n + length (named seen s))) (seen ++ named seen s) ss
+  others n seen (s ∷ ss) = (n + length (named seen s))
+      ∷ others (suc (n + length (named seen s))) (seen ++ named seen s) ss
 
   abbrev pub placed_steps : (Arg → Arg) → ℕ → List ℕ → List PayloadStep → List PayloadStep
   placed_steps to n seen [] = []
   placed_steps to n seen (s ∷ ss) =
       map captured_step (count_up (length seen) (length (named seen s)))
-      ++ (block own_index to (n + length (named seen s)) s.ty s.op ++ placed_steps to (suc (n + length (named seen s))) (seen ++ named seen s) ss)
+      ++ (block own_index to (n + length (named seen s)) s.ty s.op
+      ++ placed_steps to (suc (n + length (named seen s))) (seen ++ named seen s) ss)
 
   -- `rest` are the steps behind those in front
   abbrev pub placed_to : List PayloadStep → Arg → Arg
   placed_to rest (Input i) = Input i
   placed_to rest Out = Out
-  placed_to rest (Step i) = Step (if nat_lt i c then slice_index_or (spots 0 [] rest) (place_of i 0 (used [] rest)) 0 else slice_index_or (others 0 [] rest) (i - c) 0)
+  placed_to rest (Step i) = Step (if nat_lt i c then slice_index_or (spots 0 [] rest) (place_of i 0 (used [] rest)) 0
+      else slice_index_or (others 0 [] rest) (i - c) 0)
 
   abbrev pub in_front : List ElemTy → ElemTy → List PayloadStep → Arg → PayloadShape
-  in_front ins out rest yielded = record { ins = ins; out = out; steps = map captured_step (count_up 0 c) ++ rest; yielded = yielded }
+  in_front ins out rest yielded =
+      record { ins = ins; out = out; steps = map captured_step (count_up 0 c) ++ rest; yielded = yielded }
 
   abbrev pub placed : List ElemTy → ElemTy → List PayloadStep → Arg → PayloadShape
-  placed ins out rest yielded = record { ins = ins; out = out; steps = placed_steps (placed_to rest) 0 [] rest; yielded = placed_to rest yielded }
+  placed ins out rest yielded =
+      record { ins = ins; out = out; steps = placed_steps (placed_to rest) 0 [] rest; yielded = placed_to rest yielded }
 
   abbrev pub IsBehind : Arg → Type 0
   IsBehind (Input i) = ⊤

@@ -3,12 +3,12 @@ use Rattle.std.specs.Prelude.{◌≡◌, ℕ, zero, suc, ◌+◌, ◌<◌, ◌%�
 use Rattle.std.specs.List.{list_all}
 use Rattle.affine_maps.specs.Value.{value_at}
 use Rattle.payload_ops.specs.Bits.{reduce}
-use Rattle.payload_ops.specs.Numbers.{is_in_range, is_coefficient}
+use Rattle.mlir_base.specs.Numbers.{is_in_range, is_coefficient}
 use Rattle.payload_ops.specs.Payload.{IsPayload}
 use Rattle.payload_ops.specs.Values.{is_supplied}
 use Rattle.affine_maps.specs.declared.map.Expr.{Expr}
 use Rattle.payload_ops.specs.Shape.{PayloadShape}
-use Rattle.payload_ops.specs.declared.kinds.ElemTy.TheVariants.{Index as IndexType}
+use Rattle.mlir_base.specs.declared.types.ElemTy.TheVariants.{Index as IndexType}
 use Rattle.payload_ops.specs.declared.step.Arg.{Arg}
 use Rattle.payload_ops.specs.declared.step.Arg.TheVariants.{Input, Out, Step}
 use Rattle.payload_ops.specs.declared.step.PayloadStep.{PayloadStep}
@@ -29,7 +29,8 @@ other zero n (suc i) = n + i
 other (suc k) n zero = 0
 other (suc k) n (suc i) = suc (other k n i)
 
--- an expression as an `affine.apply`: a `linalg.index` for each dimension that it uses, and a linear step, from number n on
+-- an expression as an `affine.apply`: a `linalg.index` for each dimension that it uses, and a linear step, from
+-- number n on
 abbrev pub numbered_terms : ℕ → List (ℕ × ℤ) → List (Arg × ℤ)
 numbered_terms n [] = []
 numbered_terms n (t ∷ ts) = (Step n, t.1) ∷ numbered_terms (suc n) ts
@@ -50,8 +51,8 @@ producer_index es d n = applied (expr_at es d) n
 abbrev pub own_index : ℕ → ℕ → List PayloadStep
 own_index d n = index_step d ∷ []
 
--- what two payloads are joined by: the consumer's input, the producer's dimensions as expressions of the consumer's, the number of captured
--- values of both together, and where among these those of each stand
+-- what two payloads are joined by: the consumer's input, the producer's dimensions as expressions of the
+-- consumer's, the number of captured values of both together, and where among these those of each stand
 pub record Joint : Type 0 where
   pub input : ℕ
   pub exprs : List Expr
@@ -68,7 +69,8 @@ module _ (j : Joint) (producer consumer : PayloadShape) where
   abbrev pub producer_to : Arg → Arg
   producer_to (Input i) = Input (j.input + i)
   producer_to Out = Out
-  producer_to (Step i) = Step (number_at (numbers (producer_index j.exprs) j.of_producer (length front) producer.steps) i)
+  producer_to (Step i) =
+      Step (number_at (numbers (producer_index j.exprs) j.of_producer (length front) producer.steps) i)
 
   abbrev pub producer_steps : List PayloadStep
   producer_steps = blocks (producer_index j.exprs) producer_to (length front) producer.steps
@@ -78,7 +80,8 @@ module _ (j : Joint) (producer consumer : PayloadShape) where
   consumer_base = length (front ++ producer_steps)
 
   abbrev pub consumer_to : Arg → Arg
-  consumer_to (Input i) = if i == j.input then producer_to producer.yielded else Input (other j.input (length producer.ins) i)
+  consumer_to (Input i) = if i == j.input then producer_to producer.yielded
+      else Input (other j.input (length producer.ins) i)
   consumer_to Out = Out
   consumer_to (Step i) = Step (number_at (numbers own_index j.of_consumer consumer_base consumer.steps) i)
 
@@ -107,7 +110,8 @@ IsApart p = Each (λ (s : PayloadStep). Each IsNotOut (args_of s.op)) p.steps ×
 abbrev pub AreSmall : Expr → Type 0
 AreSmall e = (is_in_range e.constant ≡ true) × (list_all (λ (t : ℕ × ℤ). is_coefficient t.1) e.terms ≡ true)
 
--- the producer has `dims` dimensions and `caps` captured values, the consumer has `others`; of_producer and of_consumer give their places
+-- the producer has `dims` dimensions and `caps` captured values, the consumer has `others`; of_producer and
+-- of_consumer give their places
 pub record Fit (j : Joint) (dims caps width others : ℕ) (producer consumer : PayloadShape) : Type 0 where
   pub producer_fits : IsPayload producer
   pub consumer_fits : IsPayload consumer

@@ -6,7 +6,8 @@ use Rattle.std.proofs.lemmas.List.{length-map, get_or_append_left, take-append-d
 use Rattle.std.proofs.lemmas.Option.{same_Some}
 use Rattle.affine_maps.specs.Shape.{MapShape}
 use Rattle.payload_ops.specs.Combine.{joined, neutral_of, combining, value_after}
-use Rattle.payload_ops.specs.Payload.{IsPayload, bits_of}
+use Rattle.payload_ops.specs.Payload.{IsPayload}
+use Rattle.mlir_base.specs.Types.{bits_of}
 use Rattle.payload_ops.specs.Shape.{PayloadShape}
 use Rattle.payload_ops.specs.Values.{Given, arg_value, steps_values, payload_value}
 use Rattle.payload_ops.specs.declared.kinds.Combiner.{Combiner}
@@ -25,14 +26,14 @@ use Rattle.mlir_meaning.specs.States.{element}
 use Rattle.mlir_meaning.specs.Structured.{fold_points, generic_step, generic_element, generic_result, elements}
 use Rattle.mlir_meaning.specs.Vectors.{reduction_of, write_of, writes, source_axes}
 use Rattle.mlir_meaning.proofs.Cells.{same_point-true, same_point-refl}
-use Rattle.mlir_meaning.proofs.Grids.{at-tabulate, tabulate_full, tabulated, settled_some, each_more, each_point}
+use Rattle.mlir_meaning.proofs.Grids.{at-tabulate, tabulate_full, tabulated, settled_some, each_more, each_point, inside_true, inside_in}
 use Rattle.region_laws.specs.Operands.{IsTyped, maps_of}
 use Rattle.point_laws.specs.Boxes.{picks, Grows}
 use Rattle.region_laws.proofs.Inner.{generic_is}
 use Rattle.point_laws.proofs.Lists.{filter-same, both_ways}
 use Rattle.region_laws.proofs.Outputs.{selected_is, picks_in}
 use Rattle.lane_laws.specs.Lanes.{IsOnce, transfer_map, lane_of, lane_arg, lane_steps, IsHere, AreOnLanes, IsLanePayload, AreVectors, lane_given, lane_picks, AreAmong, LaneInput, lane_maps, lane_olds, lane_vectors, Selects, ReadVector, IsInputVector, AreInputVectors, WriteBack, IsChosen}
-use Rattle.point_laws.proofs.Inside.{inside_true, inside_in, grow_in, grow_length, element_inside}
+use Rattle.point_laws.proofs.Inside.{grow_in, grow_length, element_inside}
 use Rattle.lane_laws.proofs.LanePicks.{picks_of_picks, all_once, all_among, all_picks, all_whole, kept_picks, at-read, read_extents, lane_back, lane_in_box, lane_in, at-write}
 use Rattle.lane_laws.proofs.LaneSteps.{same_value, same_after, LaneRun, all_run}
 use Rattle.point_laws.proofs.Tables.{box_length}

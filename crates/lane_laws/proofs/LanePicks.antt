@@ -9,11 +9,11 @@ use Rattle.mlir_meaning.specs.Grids.{at, points, is_inside, same_point, count_up
 use Rattle.mlir_meaning.specs.Points.{has, place_of, kept}
 use Rattle.mlir_meaning.specs.Vectors.{lane_point, mask_point, is_on, read_of, writes, write_of}
 use Rattle.mlir_meaning.proofs.Cells.{same_point-true, same_point-refl}
-use Rattle.mlir_meaning.proofs.Grids.{at-tabulate}
+use Rattle.mlir_meaning.proofs.Grids.{at-tabulate, inside_true}
 use Rattle.point_laws.specs.Boxes.{picks, Grows}
 use Rattle.point_laws.proofs.Tables.{get_or-in, box_length, lists_same, in_box, count_length, count_at}
 use Rattle.lane_laws.specs.Lanes.{IsOnce, lane_of, lane_picks, AreAmong, ReadVector, WriteBack}
-use Rattle.point_laws.proofs.Inside.{inside_true, grow_in, grow_get}
+use Rattle.point_laws.proofs.Inside.{grow_in, grow_get}
 use Rattle.point_laws.proofs.Members.{IsIn}
 use Rattle.point_laws.proofs.Sorted.{point_in, point_inside}
 use Rattle.lane_laws.proofs.Transfers.{at_place, axes_in, picks_get, lane_get, lane_point_is, mask_point_is, on_is}

@@ -17,9 +17,8 @@ use Rattle.mlir_meaning.specs.declared.values.Grid.{Grid}
 use Rattle.mlir_meaning.specs.declared.values.Datum.TheVariants.{Cells}
 use Rattle.mlir_meaning.specs.Grids.{at, tabulate, is_inside, InBox}
 use Rattle.mlir_meaning.specs.Vectors.{mask_of, lane_value, elementwise_result}
-use Rattle.mlir_meaning.proofs.Grids.{at-tabulate, settled_some}
+use Rattle.mlir_meaning.proofs.Grids.{at-tabulate, settled_some, inside_true}
 use Rattle.lane_laws.specs.Lanes.{OnLanes, IsHere, AreOnLanes, IsLanePayload, IsChosen}
-use Rattle.point_laws.proofs.Inside.{inside_true}
 
 -- WITHOUT THE OUTPUT
 module _ (N : ℕ → Bool) (count y : ℕ) where

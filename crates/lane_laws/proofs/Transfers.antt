@@ -12,10 +12,9 @@ use Rattle.mlir_meaning.specs.Grids.{is_inside, count_up, InBox}
 use Rattle.mlir_meaning.specs.Points.{has, place_of, dimension_of}
 use Rattle.mlir_meaning.specs.States.{element}
 use Rattle.mlir_meaning.specs.Vectors.{mask_of, lane_point, lane_coordinate, mask_point, is_on}
-use Rattle.mlir_meaning.proofs.Grids.{at-tabulate}
+use Rattle.mlir_meaning.proofs.Grids.{at-tabulate, inside_true}
 use Rattle.point_laws.specs.Boxes.{picks, zeros}
 use Rattle.lane_laws.specs.Lanes.{IsOnce, transfer_axis, IsMask, lane_picks}
-use Rattle.point_laws.proofs.Inside.{inside_true}
 use Rattle.point_laws.proofs.Tables.{lists_same}
 
 -- PLACES

@@ -1,10 +1,10 @@
--- Vectors in place of a generic: reads, the payload lane by lane, reductions and the write. The lanes are the points of a box that holds the
--- operation's box at 0.
+-- Vectors in place of a generic: reads, the payload lane by lane, reductions and the write. The lanes are the
+-- points of a box that holds the operation's box at 0.
 use Rattle.std.specs.Prelude.{◌≡◌, ℕ, suc, ◌<◌, pos, Bool, true, List, [], ◌∷◌, ◌++◌, map, length, Option, Some, None, option_and_then, slice_index, slice_index_or, if◌then◌else◌, ⊤}
 use Rattle.affine_maps.specs.Map.{dimension}
 use Rattle.affine_maps.specs.Shape.{MapShape}
 use Rattle.affine_maps.specs.declared.map.Expr.{Expr}
-use Rattle.payload_ops.specs.Payload.{bits_of}
+use Rattle.mlir_base.specs.Types.{bits_of}
 use Rattle.payload_ops.specs.Shape.{PayloadShape}
 use Rattle.payload_ops.specs.Values.{Given, arg_bits}
 use Rattle.payload_ops.specs.declared.step.Arg.{Arg}
@@ -19,14 +19,17 @@ use Rattle.mlir_meaning.specs.declared.values.Datum.TheVariants.{Number, Bits, C
 use Rattle.mlir_meaning.specs.Points.{has, place_of, select_map}
 use Rattle.mlir_meaning.specs.States.{width_of, element}
 use Rattle.mlir_meaning.specs.Vectors.{mask_of, elementwise_result, read_of, write_of}
-use Rattle.point_laws.specs.Boxes.{picks, zeros}
+use Rattle.point_laws.specs.Boxes.{picks, zeros, Grows}
+use Rattle.region_laws.specs.Instances.{Instance, IsTypedInstance}
+use Rattle.point_laws.specs.Folds.{CannotTrap}
 
 -- TRANSFERS
 -- no dimension is named twice: each is found at its own place
 abbrev pub IsOnce : List ℕ → Type 0
 IsOnce rs = (k : ℕ) → k < length rs → place_of (slice_index rs k) 0 rs ≡ k
 
--- dimension d as an axis of a source whose map selects the dimensions rs; a 0, along which a read broadcasts, where it selects it not
+-- dimension d as an axis of a source whose map selects the dimensions rs; a 0, along which a read broadcasts, where
+-- it selects it not
 abbrev pub transfer_axis : List ℕ → ℕ → Expr
 transfer_axis rs d = if has rs d then dimension (place_of d 0 rs) else record { constant = pos 0; terms = [] }
 
@@ -78,7 +81,8 @@ lane_step vector lanes width op = elementwise_result (lane_op op) (map vector (l
 abbrev pub lane_steps : List Datum → Datum → List ℕ → List PayloadStep → List Datum → Option (List Datum)
 lane_steps ins out lanes [] done = Some done
 lane_steps ins out lanes (s ∷ rest) done =
-    option_and_then (λ v. lane_steps ins out lanes rest (done ++ v ∷ [])) (lane_step (lane_arg ins out done) lanes (bits_of s.ty) s.op)
+    option_and_then (λ v. lane_steps ins out lanes rest (done ++ v ∷ []))
+    (lane_step (lane_arg ins out done) lanes (bits_of s.ty) s.op)
 
 -- the operation stands on vectors, and its arguments are such
 abbrev pub OnLanes : (Arg → Type 0) → StepOp → Type 0
@@ -108,7 +112,8 @@ pub record IsLanePayload (N : ℕ → Bool) (o : Bool) (payload : PayloadShape) 
 
 -- the vectors that are read have the payload's types
 pub record AreVectors (N : ℕ → Bool) (o : Bool) (payload : PayloadShape) (ins : List Datum) (out : Datum) : Type 0 where
-  pub inputs : (k : ℕ) → N k ≡ true → k < length payload.ins → width_of (slice_index_or ins k (Bits 0)) ≡ arg_bits payload (Input k)
+  pub inputs : (k : ℕ) → N k ≡ true → k < length payload.ins →
+      width_of (slice_index_or ins k (Bits 0)) ≡ arg_bits payload (Input k)
   pub output : o ≡ true → width_of out ≡ bits_of payload.out
 
 -- what the payload is given at a lane
@@ -155,14 +160,16 @@ pub record ReadVector (vs dims rs : List ℕ) (g v : Grid) : Type 0 where
 
 -- an input's vector: a tensor's is read, and a scalar's is a splat
 abbrev pub IsInputVector : List ℕ → List ℕ → List ℕ → Datum → Datum → Type 0
-IsInputVector box vs rs (Cells width g) v = Selects box rs g × (w : Grid) × (v ≡ Cells width w) × ReadVector vs (count_up 0 (length box)) rs g w
+IsInputVector box vs rs (Cells width g) v = Selects box rs g × (w : Grid) × (v ≡ Cells width w)
+    × ReadVector vs (count_up 0 (length box)) rs g w
 IsInputVector box vs rs (Bits b) v = (width : ℕ) × (v ≡ Cells width (tabulate vs (λ p. b)))
 IsInputVector box vs rs (Number n) v = ⊥
 
 -- the inputs that are read have their vectors; `a` is the number of the first
 abbrev pub AreInputVectors : List ℕ → List ℕ → (ℕ → Bool) → ℕ → List LaneInput → Type 0
 AreInputVectors box vs N a [] = ⊤
-AreInputVectors box vs N a (i ∷ os) = (N a ≡ true → IsInputVector box vs i.dims i.old i.vector) × AreInputVectors box vs N (suc a) os
+AreInputVectors box vs N a (i ∷ os) = (N a ≡ true → IsInputVector box vs i.dims i.old i.vector)
+    × AreInputVectors box vs N (suc a) os
 
 -- the write of a vector over the dimensions dims into a tensor whose map selects the dimensions ds
 pub record WriteBack (vs dims ds : List ℕ) (g v w : Grid) : Type 0 where
@@ -183,3 +190,42 @@ pub record AreOutputs (n : ℕ) (ds par : List ℕ) : Type 0 where
   pub among : AreAmong par ds
   pub among_back : AreAmong ds par
   pub below : Each (λ d. d < n) par
+
+-- A GENERIC ON VECTORS: its box, the extents of the vectors over all dimensions, its inputs, the dimensions that
+-- the output's map selects, what the output holds, what it captures, and its payload
+pub record OnVectors : Type 0 where
+  pub box : List ℕ
+  pub lanes : List ℕ
+  pub inputs : List LaneInput
+  pub ds : List ℕ
+  pub width : ℕ
+  pub out : Grid
+  pub captured : List ℕ
+  pub payload : PayloadShape
+
+abbrev pub dimensions : OnVectors → List ℕ
+dimensions g = count_up 0 (length g.box)
+
+abbrev pub whole : OnVectors → Instance
+whole g = record {
+  box = g.box;
+  maps = lane_maps (length g.box) g.inputs;
+  ds = g.ds;
+  ins = lane_olds g.inputs;
+  width = g.width;
+  out = g.out;
+  captured = g.captured;
+  payload = g.payload;
+}
+
+-- the lanes hold the box at 0, the inputs of N are read, and the payload can't trap
+pub record IsVectorized (g : OnVectors) (N : ℕ → Bool) : Type 0 where
+  pub grows : Grows g.box g.lanes
+  pub selects : Selects g.box g.ds g.out
+  pub typed : IsTypedInstance (whole g)
+  pub cannot : CannotTrap g.payload
+  pub inputs : AreInputVectors g.box g.lanes N 0 g.inputs
+
+-- the output's vector over all dimensions
+abbrev pub IsOutputVector : OnVectors → Datum → Type 0
+IsOutputVector g vector = (x : Grid) × (vector ≡ Cells g.width x) × ReadVector g.lanes (dimensions g) g.ds g.out x

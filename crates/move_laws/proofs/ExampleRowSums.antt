@@ -8,7 +8,7 @@ use Rattle.payload_ops.specs.Values.{op_value}
 use Rattle.payload_ops.specs.Shape.{PayloadShape}
 use Rattle.payload_ops.specs.declared.kinds.BinOp.TheVariants.{Addi}
 use Rattle.payload_ops.specs.declared.kinds.Combiner.TheVariants.{Add}
-use Rattle.payload_ops.specs.declared.kinds.ElemTy.TheVariants.{Int}
+use Rattle.mlir_base.specs.declared.types.ElemTy.TheVariants.{Int}
 use Rattle.payload_ops.specs.declared.step.Arg.TheVariants.{Input, Out, Step}
 use Rattle.payload_ops.specs.declared.step.StepOp.TheVariants.{Binary}
 use Rattle.mlir_meaning.specs.declared.values.Grid.{Grid}

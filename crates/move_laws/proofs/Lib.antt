@@ -1,4 +1,3 @@
-pub mod Lone
 pub mod Padded
 pub mod PadLaw
 pub mod Merged

@@ -7,11 +7,10 @@ use Rattle.std.proofs.lemmas.Nat.{div-mul-add, mod-mul-add, div-add-mod'}
 use Rattle.mlir_meaning.specs.declared.values.Grid.{Grid}
 use Rattle.mlir_meaning.specs.Grids.{at, is_inside, InBox, IsFull}
 use Rattle.mlir_meaning.specs.Moves.{unpacked_point, outer_point, inner_point, pack_of, unpack_of}
-use Rattle.mlir_meaning.proofs.Grids.{at-tabulate, tabulate_same, tabulated}
+use Rattle.mlir_meaning.proofs.Grids.{at-tabulate, tabulate_same, tabulated, inside_true}
 use Rattle.point_laws.specs.Tiles.{tile_count}
 use Rattle.point_laws.proofs.Ragged.{tiles_end}
 use Rattle.move_laws.specs.Packs.{outers, inners, outer_box, inner_box, packed_box, merged, cut_axes, cut_sizes}
-use Rattle.point_laws.proofs.Inside.{inside_true}
 use Rattle.point_laws.proofs.Tables.{box_length}
 
 -- THERE AND BACK

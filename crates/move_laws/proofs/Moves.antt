@@ -5,11 +5,11 @@ use Rattle.std.proofs.lemmas.Bool.{cases_Bool}
 use Rattle.mlir_meaning.specs.declared.values.Grid.{Grid}
 use Rattle.mlir_meaning.specs.Grids.{at, plus, minus, lies_in, Fits, IsFull}
 use Rattle.mlir_meaning.specs.Moves.{slice_of, insert_into, pad_of}
-use Rattle.mlir_meaning.proofs.Grids.{tabulate_same, tabulated}
+use Rattle.mlir_meaning.proofs.Grids.{tabulate_same, tabulated, inside_true}
 use Rattle.mlir_meaning.proofs.Regions.{Apart, MovedIn, moved_in, MovedBack, moved_back, at-slice, at-insert_outside}
 use Rattle.point_laws.proofs.Lists.{and_true}
 use Rattle.point_laws.specs.Boxes.{Grows, zeros}
-use Rattle.point_laws.proofs.Inside.{inside_true, grow_in, plus-zeros}
+use Rattle.point_laws.proofs.Inside.{grow_in, plus-zeros}
 use Rattle.move_laws.proofs.Padded.{at-pad}
 
 -- a slice inserted at its own place

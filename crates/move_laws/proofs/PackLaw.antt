@@ -8,7 +8,7 @@ use Rattle.std.proofs.lemmas.Nat.{div-mul-add, div-add-mod'}
 use Rattle.std.proofs.lemmas.Option.{none-some, same_Some}
 use Rattle.affine_maps.specs.Map.{dimension}
 use Rattle.payload_ops.specs.Combine.{joined, value_after}
-use Rattle.payload_ops.specs.Payload.{bits_of}
+use Rattle.mlir_base.specs.Types.{bits_of}
 use Rattle.payload_ops.specs.Shape.{PayloadShape}
 use Rattle.payload_ops.specs.Values.{Given, payload_value}
 use Rattle.payload_ops.specs.declared.step.PayloadStep.{PayloadStep}
@@ -23,7 +23,7 @@ use Rattle.mlir_meaning.specs.Moves.{outer_point, inner_point, unpack_of}
 use Rattle.mlir_meaning.specs.Points.{has, select_map}
 use Rattle.mlir_meaning.specs.States.{grid_of}
 use Rattle.mlir_meaning.specs.Structured.{fold_points, operand_extent, generic_step, generic_element, generic_result, elements}
-use Rattle.mlir_meaning.proofs.Grids.{each_more, each_point, settled_same, settled_some}
+use Rattle.mlir_meaning.proofs.Grids.{each_more, each_point, settled_same, settled_some, inside_true, inside_in}
 use Rattle.mlir_meaning.proofs.Settled.{HasCells, HasTrap, view}
 use Rattle.point_laws.specs.Tiles.{tile_count}
 use Rattle.region_laws.specs.Operands.{IsThere, ReadsAxes, IsTyped, maps_of}
@@ -36,7 +36,7 @@ use Rattle.point_laws.proofs.Folds.{fold_any_order}
 use Rattle.point_laws.proofs.Stated.{combiners_swap}
 use Rattle.move_laws.specs.Operands.{Operand, maps_in, olds, news}
 use Rattle.move_laws.specs.Packs.{outers, inners, outer_box, inner_box, packed_box, merged, cut_axes, cut_sizes, packed_before, inner_axes, packed_dims, packed_map, packed_maps, AxesPack, Packs, IsPointFree, zeros_of, OutputPacked, PackAbsorbs, output_tiles, unpacked}
-use Rattle.point_laws.proofs.Inside.{inside_true, inside_in, fold_inside, never_none}
+use Rattle.point_laws.proofs.Inside.{fold_inside, never_none}
 use Rattle.move_laws.proofs.Merged.{merged_back, outers_in, inners_in, in_append, Split, outer_length, outer_is, inner_is}
 use Rattle.point_laws.proofs.Tables.{box_length, picked_below}
 use Rattle.move_laws.proofs.PackedAxes.{merged_still, merged_cut, inner_below, outer_still, outer_cut, CutAt, cut_at, new_length, reads_outer, reads_inner, reads_append}

@@ -15,7 +15,7 @@ use Rattle.region_laws.specs.Operands.{reach, ArePlain, IsPlain, ReadsBy, ReadsA
 use Rattle.point_laws.specs.Boxes.{NoPoints}
 use Rattle.region_laws.proofs.Operands.{weight, value_is}
 use Rattle.move_laws.specs.Packs.{outers, inners, outer_box, inner_box, packed_box, merged, packed_before, axis_tile, axis_tiles, axis_place, with_inner, inner_axes, StaysBy, StaysAxis}
-use Rattle.move_laws.proofs.Lone.{lone_parts, lone_value, selected_some}
+use Rattle.region_laws.proofs.Lone.{lone_parts, lone_value, selected_some}
 use Rattle.point_laws.proofs.Tables.{box_length}
 use Rattle.move_laws.proofs.Merged.{outer_length}
 

@@ -13,13 +13,13 @@ use Rattle.region_laws.specs.Operands.{IsPlain, ReadsAxes}
 use Rattle.point_laws.specs.Boxes.{picks}
 use Rattle.region_laws.proofs.Outputs.{selected_is}
 use Rattle.move_laws.specs.Packs.{outers, inners, outer_box, inner_box, packed_box, merged, packed_before, with_inner, inner_axes, inner_dims, packed_dims, StaysAxis, output_tiles, OutputPacked}
-use Rattle.point_laws.proofs.Inside.{inside_true, inside_in}
 use Rattle.move_laws.proofs.Merged.{merged_back, outers_in, inners_in, outers_merged, inners_merged, in_append, Split, split_in, outers_length}
 use Rattle.point_laws.proofs.Tables.{box_length, lists_same}
 use Rattle.point_laws.proofs.Members.{IsIn, same_members, map_in, map_from, distinct_map, filter_in, filter_from}
 use Rattle.point_laws.proofs.Sorted.{Before, not_before, AreSorted, sorted_distinct, sorted_same, filter_sorted, map_sorted, points_sorted, point_inside, point_in}
 use Rattle.move_laws.proofs.PackedAxes.{places, coords, places_merged, coords_in, new_places, CutAt, cut_at}
 use Rattle.move_laws.proofs.PackedOperands.{outer_place}
+use Rattle.mlir_meaning.proofs.Grids.{inside_true, inside_in}
 
 append_parts : (xs ys zs ws : List ℕ) → length xs ≡ length zs → xs ++ ys ≡ zs ++ ws → (xs ≡ zs) × (ys ≡ ws)
 append_parts xs ys zs ws l e = (

@@ -7,7 +7,7 @@ use Rattle.affine_maps.specs.Shape.{MapShape}
 use Rattle.affine_maps.specs.Map.{dimension}
 use Rattle.affine_maps.specs.declared.map.Expr.{Expr}
 use Rattle.payload_ops.specs.Combine.{joined, value_after}
-use Rattle.payload_ops.specs.Payload.{bits_of}
+use Rattle.mlir_base.specs.Types.{bits_of}
 use Rattle.payload_ops.specs.Shape.{PayloadShape}
 use Rattle.payload_ops.specs.Values.{Given, payload_value}
 use Rattle.payload_ops.proofs.Combiners.{joins_term}
@@ -24,7 +24,7 @@ use Rattle.mlir_meaning.specs.Points.{selects, has, select_map}
 use Rattle.mlir_meaning.specs.States.{grid_of}
 use Rattle.mlir_meaning.specs.Structured.{fold_points, axis_extent, operand_extent, generic_step, generic_element, generic_result, elements}
 use Rattle.mlir_meaning.proofs.Cells.{same_point-true}
-use Rattle.mlir_meaning.proofs.Grids.{settled_same, settled_some}
+use Rattle.mlir_meaning.proofs.Grids.{settled_same, settled_some, inside_true, inside_in}
 use Rattle.mlir_meaning.proofs.Settled.{HasCells, HasTrap, view}
 use Rattle.region_laws.specs.Operands.{IsThere, IsTyped, maps_of}
 use Rattle.point_laws.specs.Boxes.{picks, Grows, zeros}
@@ -33,7 +33,7 @@ use Rattle.region_laws.proofs.Inner.{generic_is}
 use Rattle.move_laws.specs.Operands.{Operand, maps_in, olds, news}
 use Rattle.move_laws.specs.Pads.{highs, IsPadded, PadsOperand, Pads, pads_of, OutputGrows, Absorbs, unpadded}
 use Rattle.point_laws.specs.Folds.{CannotTrap}
-use Rattle.point_laws.proofs.Inside.{inside_true, inside_in, grow_in, grow_length, plus-zeros, element_inside, grow_get, Leaves, leaves_at, never_none}
+use Rattle.point_laws.proofs.Inside.{grow_in, grow_length, plus-zeros, element_inside, grow_get, Leaves, leaves_at, never_none}
 use Rattle.point_laws.proofs.Tables.{picked_below}
 use Rattle.move_laws.proofs.Padded.{Grown, grown, all_old, all_new, agree_all, pads_agree}
 use Rattle.point_laws.specs.Folds.{AgreesInside}

@@ -17,14 +17,14 @@ use Rattle.mlir_meaning.specs.Moves.{pad_of}
 use Rattle.mlir_meaning.specs.Points.{to_nat, map_point, dimension_of, selects}
 use Rattle.mlir_meaning.specs.States.{element}
 use Rattle.mlir_meaning.specs.Structured.{elements}
-use Rattle.mlir_meaning.proofs.Grids.{at-tabulate}
+use Rattle.mlir_meaning.proofs.Grids.{at-tabulate, inside_true, outside_false}
 use Rattle.region_laws.specs.Operands.{reach, IsPlain, ReadsBy, ReadsAxes, AxesFit, AllFit}
 use Rattle.point_laws.specs.Boxes.{NoPoints, Grows}
 use Rattle.region_laws.proofs.Extents.{reads_inside}
 use Rattle.move_laws.specs.Operands.{Operand, maps_in, olds, news}
 use Rattle.move_laws.specs.Pads.{highs, IsPadded, PadsBy, PadsAxes, AxesPad, PadsOperand, pads_of}
-use Rattle.point_laws.proofs.Inside.{inside_true, outside_false, grow_in, grow_length, plus-zeros, grow_get}
-use Rattle.move_laws.proofs.Lone.{lone_value, selected_some}
+use Rattle.point_laws.proofs.Inside.{grow_in, grow_length, plus-zeros, grow_get}
+use Rattle.region_laws.proofs.Lone.{lone_value, selected_some}
 
 -- PADDED GRIDS
 pub at-pad : (g : Grid) (hs : List ℕ) (v : ℕ) (q : List ℕ) → InBox (plus g.extents hs) q → at (pad_of g hs v) q ≡ (if is_inside g.extents q then at g q else v)

@@ -10,8 +10,6 @@ use Rattle.point_laws.proofs.Inside.{grow_length}
 use Rattle.region_laws.specs.Bodies.{after}
 use Rattle.region_laws.specs.Instances.{result_of}
 use Rattle.region_laws.specs.Operands.{maps_of}
-use Rattle.region_laws.proofs.Leaves.{generic_runs}
-use Rattle.region_laws.proofs.Nests.{set_same}
 use Rattle.move_laws.specs.Laws.{PaddedIsGeneric, PaddedInputsAreGeneric, PackedIsGeneric, PackedInputsAreGeneric, PaddedRunsAsGeneric, PackedRunsAsGeneric}
 use Rattle.move_laws.specs.Operands.{maps_in, news}
 use Rattle.move_laws.specs.Pads.{padded, unpadded}
@@ -25,6 +23,7 @@ use Rattle.region_laws.specs.Instances.{Instance}
 use Rattle.point_laws.specs.Boxes.{Grows}
 use Rattle.mlir_meaning.specs.States.{State}
 use Rattle.mlir_meaning.specs.Meaning.{kind_meaning}
+use Rattle.mlir_meaning.proofs.States.{set_same, generic_runs}
 
 -- the greater box has as many dimensions
 same_rank : (m : Moved) (box' : List ℕ) → Grows m.box box' →

@@ -26,17 +26,20 @@ use Rattle.region_laws.specs.Instances.{Instance, result_of}
 -- SLICES AND INSERTIONS
 -- a slice inserted at its own place changes nothing
 abbrev pub InsertsOwnSlice : Type 0
-InsertsOwnSlice = (g : Grid) (os ns : List ℕ) → IsFull g → Fits g.extents os ns → insert_into (slice_of g os ns) os g ≡ g
+InsertsOwnSlice = (g : Grid) (os ns : List ℕ) → IsFull g → Fits g.extents os ns →
+    insert_into (slice_of g os ns) os g ≡ g
 
 -- a slice without a point in common with an insertion is the destination's
 abbrev pub SlicesElsewhere : Type 0
 SlicesElsewhere = (t : Grid) (os : List ℕ) (g : Grid) (os' ns' : List ℕ) → Fits g.extents os' ns' →
-    ((p : List ℕ) → InBox g.extents p → (lies_in os t.extents p && lies_in os' ns' p) ≡ false) → slice_of (insert_into t os g) os' ns' ≡ slice_of g os' ns'
+    ((p : List ℕ) → InBox g.extents p → (lies_in os t.extents p && lies_in os' ns' p) ≡ false) →
+    slice_of (insert_into t os g) os' ns' ≡ slice_of g os' ns'
 
 -- PADS
 -- a pad, sliced back, is its source
 abbrev pub SlicesPad : Type 0
-SlicesPad = (g : Grid) (hs : List ℕ) (v : ℕ) → IsFull g → Grows g.extents (plus g.extents hs) → slice_of (pad_of g hs v) (zeros g.extents) g.extents ≡ g
+SlicesPad = (g : Grid) (hs : List ℕ) (v : ℕ) → IsFull g → Grows g.extents (plus g.extents hs) →
+    slice_of (pad_of g hs v) (zeros g.extents) g.extents ≡ g
 
 -- the generic over padded operands, sliced back, is the generic
 abbrev pub PaddedIsGeneric : Type 0
@@ -45,14 +48,16 @@ PaddedIsGeneric = (m : Moved) (box' : List ℕ) (value : ℕ) → IsPaddedTo m b
 
 -- and where the output isn't padded, it is the generic as it stands
 abbrev pub PaddedInputsAreGeneric : Type 0
-PaddedInputsAreGeneric = (m : Moved) (box' : List ℕ) (value : ℕ) → IsPaddedTo m box' value → m.new.extents ≡ m.old.extents →
+PaddedInputsAreGeneric = (m : Moved) (box' : List ℕ) (value : ℕ) → IsPaddedTo m box' value →
+    m.new.extents ≡ m.old.extents →
     result_of (padded m box') ≡ result_of (before m)
 
 -- PACKS
 -- an unpack of a pack is its source
 abbrev pub UnpacksPack : Type 0
 UnpacksPack = (g : Grid) (ts : List ℕ) (v : ℕ) → IsFull g → length ts ≡ length g.extents →
-    unpack_of (pack_of g (packed_box g.extents ts) (cut_axes ts) (cut_sizes ts) v) g.extents (cut_axes ts) (cut_sizes ts) ≡ g
+    unpack_of (pack_of g (packed_box g.extents ts) (cut_axes ts) (cut_sizes ts) v) g.extents (cut_axes ts)
+    (cut_sizes ts) ≡ g
 
 -- the generic over packed operands, unpacked into the old output, is the generic
 abbrev pub PackedIsGeneric : Type 0
@@ -61,7 +66,8 @@ PackedIsGeneric = (m : Moved) (ts : List ℕ) → IsPackedBy m ts →
 
 -- and where no axis of the output is packed, it is the generic as it stands
 abbrev pub PackedInputsAreGeneric : Type 0
-PackedInputsAreGeneric = (m : Moved) (ts : List ℕ) → IsPackedBy m ts → cut_sizes (output_tiles ts m.ds) ≡ [] → result_of (packed m ts) ≡ result_of (before m)
+PackedInputsAreGeneric = (m : Moved) (ts : List ℕ) → IsPackedBy m ts → cut_sizes (output_tiles ts m.ds) ≡ [] →
+    result_of (packed m ts) ≡ result_of (before m)
 
 -- IN A STATE
 -- what a result that is moved on leaves behind; None is the trap
@@ -88,7 +94,8 @@ pub record Pair : Type 0 where
 
 abbrev pub pair_ops : Pair → Instance → OpKind → List Op
 pair_ops n g kind =
-    record { id = n.id; results = (n.result, n.ty) ∷ []; kind = Generic (maps_of g.maps g.box g.ds) n.iterators n.ins n.outs n.names g.payload }
+    record { id = n.id; results = (n.result, n.ty) ∷ []; kind = Generic
+    (maps_of g.maps g.box g.ds) n.iterators n.ins n.outs n.names g.payload }
     ∷ record { id = n.back_id; results = (n.back, n.back_ty) ∷ []; kind = kind } ∷ []
 
 pub record HoldsInstance (s : State) (n : Pair) (g : Instance) : Type 0 where
@@ -101,13 +108,17 @@ pub record HoldsInstance (s : State) (n : Pair) (g : Instance) : Type 0 where
 abbrev pub PaddedRunsAsGeneric : Type 0
 PaddedRunsAsGeneric = (m : Moved) (box' : List ℕ) (value : ℕ) → IsPaddedTo m box' value →
     (s : State) (n : Pair) → HoldsInstance s n (padded m box') → (offsets sizes : List Idx) →
-    ((d : Datum) → (places_in (after s n.result d).values offsets ≡ zeros m.old.extents) × (places_in (after s n.result d).values sizes ≡ m.old.extents)) →
-    EndsWith s (pair_ops n (padded m box') (ExtractSlice n.result offsets sizes)) n.result n.back (unpadded m.old.extents) (result_of (before m))
+    ((d : Datum) → (places_in (after s n.result d).values offsets ≡ zeros m.old.extents)
+    × (places_in (after s n.result d).values sizes ≡ m.old.extents)) →
+    EndsWith s (pair_ops n (padded m box') (ExtractSlice n.result offsets sizes)) n.result n.back
+    (unpadded m.old.extents) (result_of (before m))
 
 -- the generic on packed operands and the unpack into the old output
 abbrev pub PackedRunsAsGeneric : Type 0
 PackedRunsAsGeneric = (m : Moved) (ts : List ℕ) → IsPackedBy m ts →
-    (s : State) (n : Pair) → HoldsInstance s n (packed m ts) → (old_outs : ValueId) → ((d : Datum) → (after s n.result d).values old_outs.0 ≡ Cells m.width m.old) →
+    (s : State) (n : Pair) → HoldsInstance s n (packed m ts) → (old_outs : ValueId) →
+    ((d : Datum) → (after s n.result d).values old_outs.0 ≡ Cells m.width m.old) →
     let back = output_tiles ts m.ds in
-    EndsWith s (pair_ops n (packed m ts) (Unpack n.result old_outs (cut_axes back) (cut_sizes back))) n.result n.back (unpacked m.old.extents back m.width)
+    EndsWith s (pair_ops n (packed m ts) (Unpack n.result old_outs (cut_axes back) (cut_sizes back))) n.result n.back
+    (unpacked m.old.extents back m.width)
     (result_of (before m))

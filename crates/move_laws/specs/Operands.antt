@@ -6,7 +6,8 @@ use Rattle.payload_ops.specs.Shape.{PayloadShape}
 use Rattle.mlir_meaning.specs.declared.values.Grid.{Grid}
 use Rattle.region_laws.specs.Instances.{Instance}
 
--- AN OPERAND of an operation before and after a step: its map before, the padding value that it is given, what it holds before and after
+-- AN OPERAND of an operation before and after a step: its map before, the padding value that it is given, what it
+-- holds before and after
 pub record Operand : Type 0 where
   pub axes : MapShape
   pub value : ℕ
@@ -22,8 +23,8 @@ olds os = map (λ (o : Operand). o.old) os
 abbrev pub news : List Operand → List Datum
 news os = map (λ (o : Operand). o.new) os
 
--- A GENERIC WHOSE OPERANDS A STEP MOVES: its box, its inputs, the dimensions that the output's map selects, what the output holds before and after, what it
--- captures, and its payload
+-- A GENERIC WHOSE OPERANDS A STEP MOVES: its box, its inputs, the dimensions that the output's map selects, what
+-- the output holds before and after, what it captures, and its payload
 pub record Moved : Type 0 where
   pub box : List ℕ
   pub inputs : List Operand

@@ -1,5 +1,5 @@
--- Packed points and packed operands. Axis d of a point is cut by the size at place d of a list, into an outer coordinate in its place and an inner one
--- after all axes; 0 leaves it whole.
+-- Packed points and packed operands. Axis d of a point is cut by the size at place d of a list, into an outer
+-- coordinate in its place and an inner one after all axes; 0 leaves it whole.
 use Rattle.std.specs.Prelude.{◌≡◌, ℕ, zero, suc, ◌+◌, ◌*◌, ◌/◌, ◌%◌, ◌<◌, ◌^◌, ℤ, true, false, List, [], ◌∷◌, ◌++◌, map, length, Option, Some, None, slice_index, if◌then◌else◌, ◌⊎◌, ⊤}
 use Rattle.std.specs.List.{list_any}
 use Rattle.std.specs.Option.{option_map_or}
@@ -7,7 +7,7 @@ use Rattle.affine_maps.specs.Map.{dimension}
 use Rattle.affine_maps.specs.Shape.{MapShape}
 use Rattle.affine_maps.specs.declared.map.Expr.{Expr}
 use Rattle.payload_ops.specs.Known.{is_neutral_under}
-use Rattle.payload_ops.specs.Payload.{bits_of}
+use Rattle.mlir_base.specs.Types.{bits_of}
 use Rattle.payload_ops.specs.Shape.{PayloadShape}
 use Rattle.payload_ops.specs.declared.step.StepOp.{StepOp}
 use Rattle.payload_ops.specs.declared.step.StepOp.TheVariants.{Index}
@@ -104,7 +104,8 @@ inner_axes n ts [] = []
 inner_axes n ts (e ∷ es) = with_inner (axis_tile ts e) (dimension (n + axis_place ts e)) (inner_axes n ts es)
 
 abbrev pub packed_map : List ℕ → MapShape → MapShape
-packed_map ts m = record { dims = length ts + length (cut_sizes ts); results = m.results ++ inner_axes (length ts) ts m.results }
+packed_map ts m = record { dims = length ts + length (cut_sizes ts); results = m.results
+    ++ inner_axes (length ts) ts m.results }
 
 -- the same of the dimensions that the output's map selects
 abbrev pub inner_dims : ℕ → List ℕ → List ℕ → List ℕ
@@ -114,11 +115,13 @@ inner_dims n ts (d ∷ ds) = with_inner (slice_index ts d) (n + packed_before ts
 abbrev pub packed_dims : List ℕ → List ℕ → List ℕ
 packed_dims ts ds = ds ++ inner_dims (length ts) ts ds
 
--- the operand in the new operation: packed with 0 in the places past its end, or the same where none of its axes is packed
+-- the operand in the new operation: packed with 0 in the places past its end, or the same where none of its axes is
+-- packed
 abbrev pub IsPacked : List ℕ → MapShape → Datum → Datum → Type 0
 IsPacked ts m (Cells width g) x' =
     let sizes = axis_tiles ts m.results in
-    (x' ≡ Cells width (pack_of g (packed_box g.extents sizes) (cut_axes sizes) (cut_sizes sizes) 0)) ⊎ ((x' ≡ Cells width g) × (cut_sizes sizes ≡ []))
+    (x' ≡ Cells width (pack_of g (packed_box g.extents sizes) (cut_axes sizes) (cut_sizes sizes) 0))
+    ⊎ ((x' ≡ Cells width g) × (cut_sizes sizes ≡ []))
 IsPacked ts m x x' = x' ≡ x
 
 -- an axis that isn't one dimension alone names no dimension that is packed
@@ -132,7 +135,8 @@ StaysAxis ts e = StaysBy ts e (dimension_of e)
 -- WHAT IS KNOWN OF THE OPERANDS
 -- a scalar has a map without results
 abbrev pub AxesPack : List ℕ → List ℕ → MapShape → Datum → Type 0
-AxesPack box ts m (Cells width g) = Each (IsPlain (length box)) m.results × Each (StaysAxis ts) m.results × ReadsAxes box m.results g.extents
+AxesPack box ts m (Cells width g) = Each (IsPlain (length box)) m.results × Each (StaysAxis ts) m.results
+    × ReadsAxes box m.results g.extents
 AxesPack box ts m _ = m.results ≡ []
 
 abbrev pub PacksOperand : List ℕ → List ℕ → Operand → Type 0
@@ -146,7 +150,8 @@ pub record Packs (box ts : List ℕ) (os : List Operand) (ds : List ℕ) (width 
   pub inputs : Each (PacksOperand box ts) os
   pub selects : Each (λ d. d < length box) ds
   pub extents : g.extents ≡ picks ds box
-  pub alone : (d : ℕ) → d < length box → IsThere (operand_extent d (maps_of (maps_in os) box ds) (olds os ++ Cells width g ∷ []))
+  pub alone : (d : ℕ) → d < length box →
+      IsThere (operand_extent d (maps_of (maps_in os) box ds) (olds os ++ Cells width g ∷ []))
   pub output : IsPacked ts (select_map (length box) ds) (Cells width g) (Cells width g')
 
 abbrev pub packed_maps : List ℕ → List Operand → List MapShape
@@ -166,9 +171,11 @@ abbrev pub OutputPacked : List ℕ → List ℕ → List ℕ → Type 0
 OutputPacked box ts ds = (d : ℕ) → d < length box → (slice_index ts d ≡ 0 → ⊥) → has ds d ≡ true
 
 -- or the terms past the end of each other one that is packed with a size that doesn't divide are neutral
-pub record PackAbsorbs (box ts : List ℕ) (os : List Operand) (ds : List ℕ) (payload : PayloadShape) (g : Grid) : Type 0 where
+pub record PackAbsorbs (box ts : List ℕ) (os : List Operand) (ds : List ℕ) (payload : PayloadShape)
+    (g : Grid) : Type 0 where
   pub combines : Combines payload
-  pub neutral : (d : ℕ) → d < length box → has ds d ≡ false → (slice_index ts d ≡ 0 → ⊥) → (slice_index box d % slice_index ts d ≡ 0 → ⊥) → is_neutral_under payload (zeros_of d os) ≡ true
+  pub neutral : (d : ℕ) → d < length box → has ds d ≡ false → (slice_index ts d ≡ 0 → ⊥) →
+      (slice_index box d % slice_index ts d ≡ 0 → ⊥) → is_neutral_under payload (zeros_of d os) ≡ true
   pub below : (p : List ℕ) → InBox g.extents p → at g p < 2 ^ bits_of payload.out
 
 -- what the new operation gives, unpacked into the old output
@@ -188,7 +195,8 @@ packed m ts = record {
   payload = m.payload;
 }
 
--- its operands are packed by these sizes with 0; the payload names no dimension and can't trap; and what is added changes nothing
+-- its operands are packed by these sizes with 0; the payload names no dimension and can't trap; and what is added
+-- changes nothing
 pub record IsPackedBy (m : Moved) (ts : List ℕ) : Type 0 where
   pub packs : Packs m.box ts m.inputs m.ds m.width m.old m.new
   pub free : Each (λ (s : PayloadStep). IsPointFree s.op) m.payload.steps

@@ -5,7 +5,7 @@ use Rattle.std.specs.Option.{option_map_or}
 use Rattle.affine_maps.specs.Shape.{MapShape}
 use Rattle.affine_maps.specs.declared.map.Expr.{Expr}
 use Rattle.payload_ops.specs.Known.{is_neutral_under}
-use Rattle.payload_ops.specs.Payload.{bits_of}
+use Rattle.mlir_base.specs.Types.{bits_of}
 use Rattle.payload_ops.specs.Shape.{PayloadShape}
 use Rattle.mlir_meaning.specs.Grids.{at, InBox, Each}
 use Rattle.mlir_meaning.specs.Moves.{like, pad_of, slice_of}
@@ -32,14 +32,17 @@ highs box box' es = map (axis_high box box') es
 -- the operand in the new operation: padded, or the same where none of its axes grows
 abbrev pub IsPadded : List ℕ → List ℕ → MapShape → ℕ → Datum → Datum → Type 0
 IsPadded box box' m v (Cells width g) x' =
-    (x' ≡ Cells width (pad_of g (highs box box' m.results) v)) ⊎ ((x' ≡ Cells width g) × (highs box box' m.results ≡ zeros g.extents))
+    (x' ≡ Cells width (pad_of g (highs box box' m.results) v))
+    ⊎ ((x' ≡ Cells width g) × (highs box box' m.results ≡ zeros g.extents))
 IsPadded box box' m v x x' = x' ≡ x
 
 -- WHAT IS KNOWN OF THE OPERANDS
--- the dimensions of an axis that isn't one dimension alone stay; its greatest value on the box lies below its extent, or also the new box has no points
+-- the dimensions of an axis that isn't one dimension alone stay; its greatest value on the box lies below its
+-- extent, or also the new box has no points
 abbrev pub PadsBy : List ℕ → List ℕ → Expr → ℕ → Option ℕ → Type 0
 PadsBy box box' e x (Some d) = (d < length box) × (x ≡ slice_index box d)
-PadsBy box box' e x None = Each (λ (t : ℕ × ℤ). slice_index box' t.0 ≡ slice_index box t.0) e.terms × ((to_nat e.constant + reach e.terms box < x) ⊎ NoPoints box')
+PadsBy box box' e x None = Each (λ (t : ℕ × ℤ). slice_index box' t.0 ≡ slice_index box t.0) e.terms
+    × ((to_nat e.constant + reach e.terms box < x) ⊎ NoPoints box')
 
 abbrev pub PadsAxes : List ℕ → List ℕ → List Expr → List ℕ → Type 0
 PadsAxes box box' [] [] = ⊤
@@ -59,7 +62,8 @@ pub record Pads (box box' : List ℕ) (os : List Operand) (ds : List ℕ) (width
   pub inputs : Each (PadsOperand box box') os
   pub selects : Each (λ d. d < length box) ds
   pub extents : g.extents ≡ picks ds box
-  pub alone : (d : ℕ) → d < length box → IsThere (operand_extent d (maps_of (maps_in os) box ds) (olds os ++ Cells width g ∷ []))
+  pub alone : (d : ℕ) → d < length box →
+      IsThere (operand_extent d (maps_of (maps_in os) box ds) (olds os ++ Cells width g ∷ []))
   pub output : IsPadded box box' (select_map (length box) ds) value (Cells width g) (Cells width g')
 
 -- WHAT IS KNOWN OF THE PAYLOAD
@@ -72,9 +76,11 @@ abbrev pub OutputGrows : List ℕ → List ℕ → List ℕ → Type 0
 OutputGrows box box' ds = (d : ℕ) → d < length box → slice_index box d < slice_index box' d → has ds d ≡ true
 
 -- or the terms at the new coordinates of each other one that grows are neutral
-pub record Absorbs (box box' : List ℕ) (os : List Operand) (ds : List ℕ) (payload : PayloadShape) (g : Grid) : Type 0 where
+pub record Absorbs (box box' : List ℕ) (os : List Operand) (ds : List ℕ) (payload : PayloadShape)
+    (g : Grid) : Type 0 where
   pub combines : Combines payload
-  pub neutral : (d : ℕ) → d < length box → slice_index box d < slice_index box' d → has ds d ≡ false → is_neutral_under payload (pads_of d os) ≡ true
+  pub neutral : (d : ℕ) → d < length box → slice_index box d < slice_index box' d → has ds d ≡ false →
+      is_neutral_under payload (pads_of d os) ≡ true
   pub below : (p : List ℕ) → InBox g.extents p → at g p < 2 ^ bits_of payload.out
 
 -- the old box of what the new operation gives
@@ -94,7 +100,8 @@ padded m box' = record {
   payload = m.payload;
 }
 
--- its operands are padded to the greater box, the output with `value`; the payload can't trap; and what is added changes nothing
+-- its operands are padded to the greater box, the output with `value`; the payload can't trap; and what is added
+-- changes nothing
 pub record IsPaddedTo (m : Moved) (box' : List ℕ) (value : ℕ) : Type 0 where
   pub pads : Pads m.box box' m.inputs m.ds m.width value m.old m.new
   pub cannot : CannotTrap m.payload

@@ -3,7 +3,8 @@ use Rattle.std.proofs.Common.{◌≡◌, ℕ, ◌<◌, ◌^◌, List, [], ◌∷
 use Rattle.std.specs.Prelude.{option_map, option_and_then}
 use Rattle.payload_ops.specs.Combine.{joined, neutral_of, combining, value_after}
 use Rattle.payload_ops.specs.Laws.{with_out}
-use Rattle.payload_ops.specs.Payload.{IsPayload, bits_of}
+use Rattle.payload_ops.specs.Payload.{IsPayload}
+use Rattle.mlir_base.specs.Types.{bits_of}
 use Rattle.payload_ops.specs.Shape.{PayloadShape}
 use Rattle.payload_ops.specs.Values.{Given, payload_value}
 use Rattle.payload_ops.specs.declared.kinds.Combiner.{Combiner}

@@ -1,7 +1,7 @@
 -- The points of a box among those of a box that holds it, and folds of which the other points change nothing.
 use Rattle.std.proofs.Common.{◌≡◌, ℕ, suc, ◌+◌, nat_lt, Bool, true, false, ◌&&◌, cond, List, [], ◌∷◌, map, fold, filter, length, Option, Some, None, ⊎_elim, refl, ap, sym, ◌∙◌, arith, zero, ◌-◌, ◌<◌, ◌≤◌, get_or}
 use Rattle.std.specs.Prelude.{option_and_then}
-use Rattle.std.proofs.lemmas.Bool.{lt-ltb, ltb-true, and_parts, false≢true, cases_Bool, true≢false, cases_lt}
+use Rattle.std.proofs.lemmas.Bool.{lt-ltb, true≢false, cases_lt}
 use Rattle.std.proofs.lemmas.List.Folds.{fold_stays}
 use Rattle.mlir_meaning.specs.Grids.{points, plus, is_inside, lies_in, same_point, InBox, Fits, Each}
 use Rattle.mlir_meaning.specs.Structured.{fold_points}
@@ -11,23 +11,6 @@ use Rattle.point_laws.proofs.Windows.{points_in_window}
 use Rattle.point_laws.specs.Boxes.{Grows, zeros}
 use Rattle.std.proofs.lemmas.Option.{none-some}
 use Rattle.point_laws.specs.Folds.{AgreesInside}
-
--- TESTS
-pub inside_true : (es p : List ℕ) → InBox es p → is_inside es p ≡ true
-inside_true [] [] h = refl
-inside_true (e ∷ es) (i ∷ p) h = λ j. lt-ltb i e h.0 j && inside_true es p h.1 j
-inside_true [] (i ∷ p) h = absurd h
-inside_true (e ∷ es) [] h = absurd h
-
-pub inside_in : (es p : List ℕ) → is_inside es p ≡ true → InBox es p
-inside_in [] [] h = tt
-inside_in (e ∷ es) (i ∷ p) h =
-    let both : (nat_lt i e ≡ true) × (is_inside es p ≡ true) = and_parts (nat_lt i e) (is_inside es p) h in (ltb-true i e both.0, inside_in es p both.1)
-inside_in [] (i ∷ p) h = absurd (false≢true h)
-inside_in (e ∷ es) [] h = absurd (false≢true h)
-
-pub outside_false : (es p : List ℕ) → (InBox es p → ⊥) → is_inside es p ≡ false
-outside_false es p outside = ⊎_elim (λ t. absurd (outside (inside_in es p t))) (λ f. f) (cases_Bool (is_inside es p))
 
 -- BOXES
 pub grow_in : (es ns p : List ℕ) → Grows es ns → InBox es p → InBox ns p

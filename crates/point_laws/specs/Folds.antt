@@ -16,9 +16,11 @@ abbrev pub then_step : (ℕ → List ℕ → Option ℕ) → Option ℕ → List
 then_step step o p = option_and_then (λ a. step a p) o
 
 -- at a point that passes the test the steps agree, and at another one the new step keeps the element
-abbrev pub AgreesInside : {X : Type 0} → (ℕ → Type 0) → (ℕ → X → Option ℕ) → (ℕ → X → Option ℕ) → (X → Bool) → X → Type 0
+abbrev pub AgreesInside : {X : Type 0} → (ℕ → Type 0) → (ℕ → X → Option ℕ) → (ℕ → X → Option ℕ) → (X → Bool) → X →
+    Type 0
 AgreesInside In step step' T p =
-    (T p ≡ true → (a : ℕ) → In a → (step' a p ≡ step a p) × ((b : ℕ) → step a p ≡ Some b → In b)) × (T p ≡ false → (a : ℕ) → In a → step' a p ≡ Some a)
+    (T p ≡ true → (a : ℕ) → In a → (step' a p ≡ step a p) × ((b : ℕ) → step a p ≡ Some b → In b))
+    × (T p ≡ false → (a : ℕ) → In a → step' a p ≡ Some a)
 
 -- the payload has a combiner
 pub record Combines (payload : PayloadShape) : Type 0 where

@@ -14,7 +14,8 @@ origin order k = slice_index_or order k 0
 
 -- each old dimension stands in the order, and each place is that of what stands there
 abbrev pub stands_once : List ℕ → ℕ → ℕ → Bool
-stands_once order n k = nat_lt (turned order k) n && (origin order (turned order k) == k) && (nat_lt (origin order k) n && (turned order (origin order k) == k))
+stands_once order n k = nat_lt (turned order k) n && (origin order (turned order k) == k)
+    && (nat_lt (origin order k) n && (turned order (origin order k) == k))
 
 -- a permutation of n dimensions
 abbrev pub is_order : List ℕ → ℕ → Bool

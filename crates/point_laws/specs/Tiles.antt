@@ -1,5 +1,6 @@
--- Tiles at multiples of a size, the last one ragged, in several dimensions at once. Dimension d of a box of extents `es` is cut by the size
--- at place d of `ts`; a size of 0, or a missing one, leaves it whole. A tile has one coordinate for each dimension that is cut.
+-- Tiles at multiples of a size, the last one ragged, in several dimensions at once. Dimension d of a box of extents
+-- `es` is cut by the size at place d of `ts`; a size of 0, or a missing one, leaves it whole. A tile has one
+-- coordinate for each dimension that is cut.
 use Rattle.std.specs.Prelude.{◌≡◌, ℕ, zero, suc, ◌+◌, ◌-◌, ◌*◌, ◌/◌, min, List, [], ◌∷◌, map, ◌<◌, ◌==◌, Bool, true, false, not, length, slice_index}
 use Rattle.mlir_meaning.specs.Grids.{Fits}
 

@@ -19,7 +19,7 @@ use Rattle.region_laws.specs.Nests.{Knows, with_value}
 use Rattle.region_laws.specs.Operands.{offsets_of, sizes_of, operand_tile, operand_tiles}
 use Rattle.region_laws.specs.Bodies.{Builds, after, Slice, slice_op, slice_ops, slice_names, IsSliceOf, grown, IsNewSlice, AreSlicesOf}
 use Rattle.point_laws.proofs.Lists.{or_right}
-use Rattle.region_laws.proofs.Nests.{set_same, set_other, apart}
+use Rattle.mlir_meaning.proofs.States.{set_same, set_other, apart}
 
 -- ONE AFTER ANOTHER
 pub builds_none : (N : ℕ → Bool) (s : State) → Builds N s [] s

@@ -23,7 +23,7 @@ use Rattle.region_laws.specs.Regions.{in_turn}
 use Rattle.region_laws.specs.Laws.{ForallBegins}
 use Rattle.region_laws.specs.Nests.{numbers_of, with_value, AreNewVars, VarsAt, noted, TileLoop}
 use Rattle.point_laws.proofs.Lists.{or_right}
-use Rattle.region_laws.proofs.Nests.{set_same, set_other, apart}
+use Rattle.mlir_meaning.proofs.States.{set_same, set_other, apart}
 
 -- THE BOX AND THE VARIABLES
 box_of : (ds : List (ℕ × ℕ)) → trip_counts (map (λ d. pos 0) ds) (map (λ (d : ℕ × ℕ). pos d.0) ds) (map (λ (d : ℕ × ℕ). pos d.1) ds) ≡ counts ds

@@ -1,38 +1,28 @@
 -- The end of the innermost body: the tiled operation, and what becomes of its result.
-use Rattle.std.proofs.Common.{◌≡◌, ℕ, ◌+◌, ◌-◌, ◌*◌, ◌<◌, ◌≤◌, ◌==◌, min, nat_lt, not, cond, ⊎_elim, pos, negsuc, ◌+ℤ◌, ◌*ℤ◌, false, true, List, [], ◌∷◌, length, Option, Some, None, refl, ap, ◌∙◌, arith, add-mul}
+use Rattle.std.proofs.Common.{◌≡◌, ℕ, ◌+◌, ◌-◌, ◌*◌, ◌<◌, ◌≤◌, ◌==◌, min, nat_lt, not, cond, ⊎_elim, pos, negsuc, ◌+ℤ◌, ◌*ℤ◌, false, true, List, [], ◌∷◌, Option, Some, None, refl, ap, ◌∙◌, arith, add-mul}
 use Rattle.std.specs.Prelude.{option_map}
 use Rattle.std.specs.Int.{int_min}
 use Rattle.std.proofs.Math.Nat.{mul-le-mul_right}
 use Rattle.std.proofs.lemmas.Bool.{eq-eqb, cases_lt}
 use Rattle.std.proofs.lemmas.Int.{ints, clamps}
 use Rattle.affine_maps.specs.Shape.{MapShape}
-use Rattle.payload_ops.specs.Shape.{PayloadShape}
 use Rattle.mlir_ir.specs.declared.tree.Op.{Op}
 use Rattle.mlir_ir.specs.declared.tree.OpId.{OpId}
-use Rattle.mlir_ir.specs.declared.tree.OpKind.{OpKind, Generic, InsertSlice, ParallelInsert}
-use Rattle.mlir_ir.specs.declared.tree.Iter.{Iter}
+use Rattle.mlir_ir.specs.declared.tree.OpKind.{OpKind, InsertSlice, ParallelInsert}
 use Rattle.mlir_ir.specs.declared.tree.Ty.{Ty}
 use Rattle.mlir_ir.specs.declared.tree.ValueId.{ValueId}
 use Rattle.mlir_ir.specs.declared.tree.Idx.{Idx}
 use Rattle.mlir_meaning.specs.Loops.{insertions_of, output_of, insertion_noted}
-use Rattle.mlir_meaning.specs.Meaning.{kind_meaning, run, values_in, captured_in, places_in, least_result}
+use Rattle.mlir_meaning.specs.Meaning.{kind_meaning, run, places_in, least_result}
 use Rattle.mlir_meaning.specs.Moves.{insert_into}
 use Rattle.mlir_meaning.specs.States.{State, Ends, made, then_goes, set, grid_of, width_of}
-use Rattle.mlir_meaning.specs.Structured.{generic_result}
 use Rattle.mlir_meaning.specs.declared.values.Grid.{Grid}
 use Rattle.mlir_meaning.specs.declared.values.Datum.{Datum}
 use Rattle.mlir_meaning.specs.declared.values.Datum.TheVariants.{Cells}
 use Rattle.point_laws.specs.Tiles.{tile_count}
 use Rattle.region_laws.specs.Nests.{ended, noted, yield_of}
-use Rattle.region_laws.proofs.Nests.{set_same, set_other}
 use Rattle.point_laws.proofs.Ragged.{tile_begins}
-
--- the tiled generic, by what its operands hold
-pub generic_runs : (s : State) (rs : List (ValueId × Ty)) (maps : List MapShape) (iterators : List Iter) (ins : List ValueId) (outs : ValueId) (captured : List ValueId) (payload : PayloadShape)
-    (xs : List Datum) (out : Datum) (numbers : List ℕ) → values_in s.values ins ≡ xs → s.values outs.0 ≡ out → captured_in s.values captured ≡ numbers →
-    kind_meaning (Generic maps iterators ins outs captured payload) rs s ≡ made rs s (generic_result maps (length iterators) xs out numbers payload)
-unfolding kind_meaning
-generic_runs s rs maps iterators ins outs captured payload xs out numbers e f h = λ j. made rs s (generic_result maps (length iterators) (e j) (f j) (h j) payload)
+use Rattle.mlir_meaning.proofs.States.{set_same, set_other}
 
 module _ (s : State) (width : ℕ) (made_tile : Option Grid) (id : OpId) (kind : OpKind) (q : ValueId) (tq : Ty) (makes : kind_meaning kind ((q, tq) ∷ []) s ≡ made ((q, tq) ∷ []) s (option_map (Cells width) made_tile)) where
   abbrev tiled_op : Op

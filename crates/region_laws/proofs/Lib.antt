@@ -1,6 +1,7 @@
 pub mod Steps
 pub mod Tiled
 pub mod Operands
+pub mod Lone
 pub mod Extents
 pub mod Outputs
 pub mod Inner

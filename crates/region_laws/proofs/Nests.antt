@@ -1,7 +1,7 @@
 -- A nest of `scf.for` over tiles runs its innermost body for each tile in turn.
 use Rattle.std.proofs.Common.{◌≡◌, ℕ, zero, suc, ◌+◌, ◌-◌, ◌*◌, ◌/◌, ◌<◌, ◌==◌, ◌||◌, ℤ, pos, ◌+ℤ◌, ◌-ℤ◌, Bool, true, false, List, [], ◌∷◌, map, fold, Option, Some, None, refl, ap, sym, ◌∙◌, arith, add-mul, zero-mul, add-zero}
 use Rattle.std.specs.Prelude.{option_map, option_and_then, if◌then◌else◌}
-use Rattle.std.proofs.lemmas.Bool.{eq-eqb, ne_eqb, true≢false}
+use Rattle.std.proofs.lemmas.Bool.{eq-eqb}
 use Rattle.std.proofs.lemmas.List.Folds.{fold-map, fold_stays}
 use Rattle.mlir_ir.specs.declared.tree.Op.{Op}
 use Rattle.mlir_ir.specs.declared.tree.OpId.{OpId}
@@ -20,17 +20,7 @@ use Rattle.point_laws.specs.Tiles.{tile_count, counts}
 use Rattle.region_laws.specs.Nests.{Level, level_loop, yield_of, nest_body, ended, Knows, HasNumber, Bounded, with_value, AreNew, InTurn, last_arg}
 use Rattle.point_laws.proofs.Lists.{fold-flat_map, fold-same, or_right}
 use Rattle.point_laws.proofs.Folds.{fold_from}
-
--- VALUES
-pub set_same : (e : ℕ → Datum) (v : ℕ) (d : Datum) → set e v d v ≡ d
-set_same e v d = λ j. if eq-eqb v v refl j then d else e v
-
-pub set_other : (e : ℕ → Datum) (v w : ℕ) (d : Datum) → (w == v) ≡ false → set e v d w ≡ e w
-set_other e v w d n = λ j. if n j then d else e w
-
--- what is in the set isn't what is not
-pub apart : (N : ℕ → Bool) (v w : ℕ) → N v ≡ false → N w ≡ true → (w == v) ≡ false
-apart N v w f t = ne_eqb w v (λ e. true≢false (sym t ∙ ap N e ∙ f))
+use Rattle.mlir_meaning.proofs.States.{set_same, set_other, apart}
 
 -- ONE LOOP
 module _ {A : Type 0} (datum : A → Datum) where

@@ -1,42 +1,23 @@
 -- One tile adds the points of its region, and tiles in turn add those of all.
-use Rattle.std.proofs.Common.{◌≡◌, ℕ, suc, ◌+◌, eqb, true, false, ◌&&◌, List, [], ◌∷◌, map, length, fold, filter, Option, Some, None, ⊎_elim, refl, ap, sym, ◌∙◌, arith}
-use Rattle.std.specs.Prelude.{option_map, option_and_then, if◌then◌else◌}
+use Rattle.std.proofs.Common.{◌≡◌, ℕ, ◌+◌, eqb, true, false, ◌&&◌, List, [], ◌∷◌, map, fold, filter, Option, Some, None, ⊎_elim, refl, ap, sym, ◌∙◌, arith}
+use Rattle.std.specs.Prelude.{option_and_then, if◌then◌else◌}
 use Rattle.std.proofs.lemmas.Bool.{eq-eqb, ne_eqb, false_from_ne_true, cases_eq, cases_Bool, true≢false}
-use Rattle.std.proofs.lemmas.List.{length-map}
 use Rattle.std.proofs.lemmas.List.Folds.{fold-map, fold_stays}
-use Rattle.std.proofs.lemmas.Option.{none-some, same_Some}
 use Rattle.mlir_meaning.specs.declared.values.Grid.{Grid}
-use Rattle.mlir_meaning.specs.Grids.{points, at, plus, minus, lies_in, same_point, settled, all_some, InBox, Fits, IsFull, Each}
+use Rattle.mlir_meaning.specs.Grids.{points, at, plus, minus, lies_in, same_point, InBox, Fits, IsFull, Each}
 use Rattle.mlir_meaning.specs.Moves.{slice_of}
 use Rattle.mlir_meaning.specs.Structured.{fold_points, generic_element}
 use Rattle.mlir_meaning.proofs.Cells.{same_point-true}
-use Rattle.mlir_meaning.proofs.Grids.{each_point, each_more, tabulated, settled_same, settled_some, points_length}
+use Rattle.mlir_meaning.proofs.Grids.{each_point, each_more, tabulated, settled_same, settled_some}
 use Rattle.mlir_meaning.proofs.Regions.{moved_in, moved_back, MovedIn, MovedBack, at-slice}
-use Rattle.mlir_meaning.proofs.Settled.{HasCells, HasTrap, view, settled_none, placed, inserted_cells}
+use Rattle.mlir_meaning.proofs.Settled.{HasCells, HasTrap, view, settled_none, placed, inserted_cells, settled_full}
 use Rattle.region_laws.specs.Regions.{pointwise, cell, region, moved, tile_step, whole_step, start_step, Window, in_turn}
 use Rattle.point_laws.proofs.Lists.{filter-map, filter_none, filter-same, filter-and}
 use Rattle.point_laws.proofs.Windows.{points_in_window}
 use Rattle.point_laws.proofs.Folds.{fold_from}
 
--- TABLES IN TURN
-all_some_length : {X : Type 0} (xs : List (Option X)) (ys : List X) → all_some xs ≡ Some ys → length ys ≡ length xs
-all_some_length [] ys e = ap length (sym (same_Some [] ys e))
-all_some_length (None ∷ xs) ys e = absurd (none-some ys e)
-all_some_length {X} (Some a ∷ xs) ys e = more (all_some xs) (all_some_length xs) e
-  where
-    more : (o : Option (List X)) → ((zs : List X) → o ≡ Some zs → length zs ≡ length xs) → option_map (λ rest. a ∷ rest) o ≡ Some ys → length ys ≡ length (Some a ∷ xs)
-    more None rest e = absurd (none-some ys e)
-    more (Some zs) rest e = let long : length zs ≡ length xs = rest zs refl in ap length (sym (same_Some (a ∷ zs) ys e)) ∙ ap (λ n. suc n) long
-
 abbrev pub grid : List ℕ → List ℕ → Grid
 grid es cs = record { extents = es; cells = cs }
-
-pub settled_full : (es : List ℕ) (h : List ℕ → Option ℕ) (cs : List ℕ) → settled es h ≡ Some (grid es cs) → IsFull (grid es cs)
-settled_full es h cs e = of (all_some (map h (points es))) (all_some_length (map h (points es))) e
-  where
-    of : (o : Option (List ℕ)) → ((zs : List ℕ) → o ≡ Some zs → length zs ≡ length (map h (points es))) → option_map (grid es) o ≡ Some (grid es cs) → IsFull (grid es cs)
-    of None long e = absurd (none-some (grid es cs) e)
-    of (Some zs) long e = sym (ap (λ (g : Grid). length g.cells) (same_Some (grid es zs) (grid es cs) e)) ∙ long zs refl ∙ length-map (points es) h ∙ points_length es
 
 -- what is done point by point, in turn
 module _ {Q : Type 0} (es : List ℕ) (h : Q → List ℕ → ℕ → Option ℕ) (one : Q → Grid → Option Grid) where

@@ -1,7 +1,6 @@
 -- The innermost body of a tiled generic, whole: slices, the tiled operation, and what becomes of its result.
-use Rattle.std.proofs.Common.{◌≡◌, ℕ, Bool, true, false, List, [], ◌∷◌, ◌++◌, length, Option, refl, ap, sym, ◌∙◌}
+use Rattle.std.proofs.Common.{◌≡◌, ℕ, Bool, true, false, List, [], ◌∷◌, ◌++◌, length, Option, refl, ap, ◌∙◌}
 use Rattle.std.specs.Prelude.{option_map}
-use Rattle.std.proofs.lemmas.Bool.{ne_eqb}
 use Rattle.affine_maps.specs.Shape.{MapShape}
 use Rattle.payload_ops.specs.Shape.{PayloadShape}
 use Rattle.mlir_ir.specs.declared.tree.Op.{Op}
@@ -14,8 +13,7 @@ use Rattle.mlir_meaning.specs.Grids.{settled, InBox}
 use Rattle.mlir_meaning.specs.Loops.{insertions_of}
 use Rattle.mlir_meaning.specs.Meaning.{kind_meaning, run, values_in}
 use Rattle.mlir_meaning.specs.Moves.{slice_of}
-use Rattle.mlir_meaning.specs.Names.{DoesNotName}
-use Rattle.mlir_meaning.specs.States.{State, made, set}
+use Rattle.mlir_meaning.specs.States.{State, made}
 use Rattle.mlir_meaning.specs.Structured.{generic_result, generic_element, generic_step}
 use Rattle.mlir_meaning.specs.declared.values.Grid.{Grid}
 use Rattle.mlir_meaning.specs.declared.values.Datum.{Datum}
@@ -29,13 +27,9 @@ use Rattle.region_laws.specs.Bodies.{Builds, after, Slice, slice_op, slice_ops, 
 use Rattle.region_laws.specs.TileLoops.{sliced_tile, whole_tile, started_tile}
 use Rattle.point_laws.proofs.Cuts.{tile_cut}
 use Rattle.region_laws.proofs.Inner.{inner_is}
-use Rattle.region_laws.proofs.Leaves.{generic_runs, inserts_tile, yields_tile, notes_tile}
-use Rattle.region_laws.proofs.Nests.{set_same, set_other, apart}
+use Rattle.region_laws.proofs.Leaves.{inserts_tile, yields_tile, notes_tile}
 use Rattle.region_laws.proofs.Building.{BuildsTiles, builds_tiles, builds_slice}
-
-values_kept : (e : ℕ → Datum) (v : ℕ) (d : Datum) (ns : List ValueId) → DoesNotName v ns → values_in (set e v d) ns ≡ values_in e ns
-values_kept e v d [] h = refl
-values_kept e v d (n ∷ ns) h = λ j. set_other e v n.0 d (ne_eqb n.0 v (λ x. h.0 (sym x))) j ∷ values_kept e v d ns h.1 j
+use Rattle.mlir_meaning.proofs.States.{set_same, set_other, apart, generic_runs, values_kept}
 
 module _ (box ts : List ℕ) (ms : List MapShape) (ds : List ℕ) (ins : List Datum) (width : ℕ) (captured : List ℕ) (payload : PayloadShape) (g : Grid) (typed : IsTyped box ms ds ins width g)
     (iterators : List Iter) (rank : length iterators ≡ length box) (q : List ℕ) (inside : InBox (tile_box box ts) q)

@@ -59,7 +59,8 @@ slice_names ((v, Some c) ∷ rest) = c.result ∷ slice_names rest
 abbrev pub IsSliceOf : (ℕ → Bool) → State → (ℕ → Bool) → List ℕ → List ℕ → MapShape → Datum → Option Slice → Type 0
 IsSliceOf N s cut os ns m (Cells width g) None = is_sliced cut m.results ≡ false
 IsSliceOf N s cut os ns m (Cells width g) (Some c) =
-    (is_sliced cut m.results ≡ true) × ((t : State) → Knows N s t → places_in t.values c.offsets ≡ offsets_of cut os m.results)
+    (is_sliced cut m.results ≡ true) × ((t : State) → Knows N s t →
+    places_in t.values c.offsets ≡ offsets_of cut os m.results)
     × ((t : State) → Knows N s t → places_in t.values c.sizes ≡ sizes_of cut ns m.results g.extents)
 IsSliceOf N s cut os ns m _ None = ⊤
 IsSliceOf N s cut os ns m _ (Some c) = ⊥
@@ -73,39 +74,50 @@ IsNewSlice N None = ⊤
 IsNewSlice N (Some c) = N c.result.0 ≡ false
 
 -- the operands are there, and their slices are those of their tiles, with new names
-abbrev pub AreSlicesOf : (ℕ → Bool) → State → (ℕ → Bool) → List ℕ → List ℕ → (ℕ → Bool) → List MapShape → List Datum → List (ValueId × Option Slice) → Type 0
+abbrev pub AreSlicesOf : (ℕ → Bool) → State → (ℕ → Bool) → List ℕ → List ℕ → (ℕ → Bool) → List MapShape → List Datum →
+    List (ValueId × Option Slice) → Type 0
 AreSlicesOf N s cut os ns seen [] [] [] = ⊤
 AreSlicesOf N s cut os ns seen (m ∷ ms) (x ∷ xs) (f ∷ fs) =
-    (N f.0.0 ≡ true) × (s.values f.0.0 ≡ x) × IsSliceOf N s cut os ns m x f.1 × IsNewSlice seen f.1 × AreSlicesOf N s cut os ns (grown seen f.1) ms xs fs
+    (N f.0.0 ≡ true) × (s.values f.0.0 ≡ x) × IsSliceOf N s cut os ns m x f.1 × IsNewSlice seen f.1
+    × AreSlicesOf N s cut os ns (grown seen f.1) ms xs fs
 AreSlicesOf N s cut os ns seen _ _ _ = ⊥
 
--- WHAT THE BODY OF A TILE HAS BEHIND ITS SIZES AND OFFSETS: in t, where the values of M are known, the inputs' slices are those of their tiles, the captured
--- values are those of the tile's payload, and the tile's payload gives what the payload gives at the point moved
-pub record IsBody (M : ℕ → Bool) (t : State) (box ts : List ℕ) (ms : List MapShape) (ins : List Datum) (captured : List ℕ) (payload : PayloadShape) (q : List ℕ)
-    (fs : List (ValueId × Option Slice)) (names : List ValueId) (captured' : List ℕ) (payload' : PayloadShape) : Type 0 where
+-- WHAT THE BODY OF A TILE HAS BEHIND ITS SIZES AND OFFSETS: in t, where the values of M are known, the inputs'
+-- slices are those of their tiles, the captured values are those of the tile's payload, and the tile's payload
+-- gives what the payload gives at the point moved
+pub record IsBody (M : ℕ → Bool) (t : State) (box ts : List ℕ) (ms : List MapShape) (ins : List Datum)
+    (captured : List ℕ) (payload : PayloadShape) (q : List ℕ)
+    (fs : List (ValueId × Option Slice)) (names : List ValueId) (captured' : List ℕ)
+    (payload' : PayloadShape) : Type 0 where
   pub slices : AreSlicesOf M t (is_cut ts) (tile_offsets box ts q) (tile_sizes box ts q) M ms ins fs
   pub captures : (u : State) → Knows M t u → captured_in u.values names ≡ captured'
   pub moves : IsMoved (tile_offsets box ts q) (tile_sizes box ts q) payload captured payload' captured'
 
 -- a slice of the output so far, with a new name
-pub record IsOutputSlice (M : ℕ → Bool) (t : State) (box ts ds : List ℕ) (q : List ℕ) (fs : List (ValueId × Option Slice)) (c : Slice) : Type 0 where
+pub record IsOutputSlice (M : ℕ → Bool) (t : State) (box ts ds : List ℕ) (q : List ℕ)
+    (fs : List (ValueId × Option Slice)) (c : Slice) : Type 0 where
   pub offsets : (u : State) → Knows M t u → places_in u.values c.offsets ≡ picks ds (tile_offsets box ts q)
   pub sizes : (u : State) → Knows M t u → places_in u.values c.sizes ≡ picks ds (tile_sizes box ts q)
   pub new : M c.result.0 ≡ false
   pub other : DoesNotName c.result.0 (slice_names fs)
 
 -- the tiled generic
-abbrev pub tiled_kind : List ℕ → List ℕ → List MapShape → List ℕ → List Iter → List (ValueId × Option Slice) → ValueId → List ValueId → PayloadShape → OpKind
-tiled_kind box ts ms ds iterators fs outs names payload' = Generic (maps_of (inner_maps (is_cut ts) ms) box ds) iterators (slice_names fs) outs names payload'
+abbrev pub tiled_kind : List ℕ → List ℕ → List MapShape → List ℕ → List Iter → List (ValueId × Option Slice) → ValueId →
+    List ValueId → PayloadShape → OpKind
+tiled_kind box ts ms ds iterators fs outs names payload' =
+    Generic (maps_of (inner_maps (is_cut ts) ms) box ds) iterators (slice_names fs) outs names payload'
 
 -- a kind of operation that means, over the tiles, what the tiled generic means; such is the target's own kind
-abbrev pub MeansTiled : List ℕ → List ℕ → List MapShape → List ℕ → List Datum → ℕ → List Iter → List ℕ → List (ValueId × Option Slice) → List ValueId → PayloadShape → (ValueId → OpKind) → Type 0
-MeansTiled box ts ms ds ins width iterators q fs names payload' kind = (u : State) (rs : List (ValueId × Ty)) (outs : ValueId) (x : Grid) →
-    values_in u.values (slice_names fs) ≡ operand_tiles (is_cut ts) (tile_offsets box ts q) (tile_sizes box ts q) ms ins → u.values outs.0 ≡ Cells width x → x.extents ≡ picks ds (tile_sizes box ts q) →
+abbrev pub MeansTiled : List ℕ → List ℕ → List MapShape → List ℕ → List Datum → ℕ → List Iter → List ℕ →
+    List (ValueId × Option Slice) → List ValueId → PayloadShape → (ValueId → OpKind) → Type 0
+MeansTiled box ts ms ds ins width iterators q fs names payload' kind =
+    (u : State) (rs : List (ValueId × Ty)) (outs : ValueId) (x : Grid) →
+    values_in u.values (slice_names fs) ≡ operand_tiles (is_cut ts) (tile_offsets box ts q)
+    (tile_sizes box ts q) ms ins → u.values outs.0 ≡ Cells width x → x.extents ≡ picks ds (tile_sizes box ts q) →
     kind_meaning (kind outs) rs u ≡ kind_meaning (tiled_kind box ts ms ds iterators fs outs names payload') rs u
 
--- A TILE'S BODY: the inputs, each with its slice if it isn't used whole, the kind of the tiled operation over its output, the values that it captures, what
--- these hold, and the tile's payload
+-- A TILE'S BODY: the inputs, each with its slice if it isn't used whole, the kind of the tiled operation over its
+-- output, the values that it captures, what these hold, and the tile's payload
 pub record TileBody : Type 0 where
   pub inputs : List (ValueId × Option Slice)
   pub iterators : List Iter
@@ -131,16 +143,19 @@ tiled_op b outs n = record { id = n.id; results = (n.result, n.ty) ∷ []; kind 
 abbrev pub sliced_body : TileBody → ValueId → Slice → Names → List Op
 sliced_body b arg c n =
     slice_ops b.inputs ++ (slice_op arg c ∷ tiled_op b c.result n
-    ∷ record { id = n.insertion; results = (n.inserted, n.inserted_ty) ∷ []; kind = InsertSlice n.result arg c.offsets c.sizes } ∷ yield_of n.end n.inserted ∷ [])
+    ∷ record { id = n.insertion; results = (n.inserted, n.inserted_ty)
+    ∷ []; kind = InsertSlice n.result arg c.offsets c.sizes } ∷ yield_of n.end n.inserted ∷ [])
 
 -- with the carried tensor whole
 abbrev pub whole_body : TileBody → ValueId → Names → List Op
 whole_body b arg n = slice_ops b.inputs ++ (tiled_op b arg n ∷ yield_of n.end n.result ∷ [])
 
--- with a slice c of the shared output and its insertion (SCF manual, "scf.forall"; Tensor manual, "tensor.parallel_insert_slice")
+-- with a slice c of the shared output and its insertion (SCF manual, "scf.forall"; Tensor manual,
+-- "tensor.parallel_insert_slice")
 abbrev pub noting_body : TileBody → ValueId → Slice → Names → List Op
 noting_body b arg c n =
-    slice_ops b.inputs ++ (slice_op arg c ∷ tiled_op b c.result n ∷ record { id = n.insertion; results = []; kind = ParallelInsert n.result arg c.offsets c.sizes } ∷ [])
+    slice_ops b.inputs ++ (slice_op arg c ∷ tiled_op b c.result n
+    ∷ record { id = n.insertion; results = []; kind = ParallelInsert n.result arg c.offsets c.sizes } ∷ [])
 
 -- in t, where the values of M are known, the body has what tile q of the generic needs
 pub record DoesTile (g : Instance) (ts q : List ℕ) (M : ℕ → Bool) (t : State) (b : TileBody) : Type 0 where
@@ -151,7 +166,8 @@ pub record DoesTile (g : Instance) (ts q : List ℕ) (M : ℕ → Bool) (t : Sta
   pub means : MeansTiled g.box ts g.maps g.ds g.ins g.width b.iterators q b.inputs b.names b.payload b.kind
 
 -- the carried tensor, or the shared output, is x, and c is its slice
-pub record IsOutputOf (g : Instance) (ts q : List ℕ) (M : ℕ → Bool) (t : State) (b : TileBody) (arg : ValueId) (x : Grid) (c : Slice) : Type 0 where
+pub record IsOutputOf (g : Instance) (ts q : List ℕ) (M : ℕ → Bool) (t : State) (b : TileBody) (arg : ValueId)
+    (x : Grid) (c : Slice) : Type 0 where
   pub known : M arg.0 ≡ true
   pub holds : t.values arg.0 ≡ Cells g.width x
   pub slice : IsOutputSlice M t g.box ts g.ds q b.inputs c

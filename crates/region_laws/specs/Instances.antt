@@ -8,8 +8,8 @@ use Rattle.mlir_meaning.specs.declared.values.Datum.TheVariants.{Cells}
 use Rattle.mlir_meaning.specs.declared.values.Grid.{Grid}
 use Rattle.region_laws.specs.Operands.{maps_of, IsTyped, FitsBox}
 
--- the extents of its dimensions, the maps of its inputs, the dimensions that the output's map selects, what the inputs and the output hold
--- (elements of `width` bits), what it captures, and its payload
+-- the extents of its dimensions, the maps of its inputs, the dimensions that the output's map selects, what the
+-- inputs and the output hold (elements of `width` bits), what it captures, and its payload
 pub record Instance : Type 0 where
   pub box : List ℕ
   pub maps : List MapShape

@@ -1,4 +1,5 @@
--- Tiles of operands, through their maps. A region of a box is given by offsets and sizes, with the dimensions that it cuts: the others are whole.
+-- Tiles of operands, through their maps. A region of a box is given by offsets and sizes, with the dimensions that
+-- it cuts: the others are whole.
 use Rattle.std.specs.Prelude.{◌≡◌, ℕ, ◌+◌, ◌-◌, ◌*◌, ◌<◌, ℤ, pos, Bool, true, false, ◌||◌, List, [], ◌∷◌, ◌++◌, map, length, Option, Some, None, slice_index, if◌then◌else◌, ◌⊎◌, ⊤}
 use Rattle.affine_maps.specs.Shape.{MapShape}
 use Rattle.affine_maps.specs.Value.{value_at}
@@ -24,7 +25,8 @@ abbrev pub reach : List (ℕ × ℤ) → List ℕ → ℕ
 reach [] ns = 0
 reach (t ∷ terms) ns = to_nat t.1 * (slice_index ns t.0 - 1) + reach terms ns
 
--- an axis that names a dimension that is cut begins at its expression's value at the offsets, and reaches as far as the sizes do
+-- an axis that names a dimension that is cut begins at its expression's value at the offsets, and reaches as far as
+-- the sizes do
 abbrev pub axis_offset : (ℕ → Bool) → List ℕ → Expr → ℕ
 axis_offset cut os e = if names_cut cut e.terms then to_nat (value_at e (map pos os)) else 0
 
@@ -55,7 +57,8 @@ is_sliced cut (e ∷ es) = names_cut cut e.terms || is_sliced cut es
 
 abbrev pub operand_tile : (ℕ → Bool) → List ℕ → List ℕ → MapShape → Datum → Datum
 operand_tile cut os ns m (Cells width g) =
-    if is_sliced cut m.results then Cells width (slice_of g (offsets_of cut os m.results) (sizes_of cut ns m.results g.extents)) else Cells width g
+    if is_sliced cut m.results
+    then Cells width (slice_of g (offsets_of cut os m.results) (sizes_of cut ns m.results g.extents)) else Cells width g
 operand_tile cut os ns m (Number n) = Number n
 operand_tile cut os ns m (Bits b) = Bits b
 
@@ -71,7 +74,8 @@ ArePlain dims = Each (λ t. (t.1 ≡ pos (to_nat t.1)) × (t.0 < dims))
 abbrev pub IsPlain : ℕ → Expr → Type 0
 IsPlain dims e = (e.constant ≡ pos (to_nat e.constant)) × ArePlain dims e.terms
 
--- an axis that one dimension alone selects has its extent; of any other, the greatest value on the box lies below the extent, or there are no points
+-- an axis that one dimension alone selects has its extent; of any other, the greatest value on the box lies below
+-- the extent, or there are no points
 abbrev pub ReadsBy : List ℕ → Expr → ℕ → Option ℕ → Type 0
 ReadsBy box e x (Some d) = (d < length box) × (x ≡ slice_index box d)
 ReadsBy box e x None = (to_nat e.constant + reach e.terms box < x) ⊎ NoPoints box
@@ -86,7 +90,8 @@ ReadsAxes box _ _ = ⊥
 
 -- an operand that is read inside its extents at each point of the box; a scalar always is
 abbrev pub IsRead : List ℕ → MapShape → Datum → Type 0
-IsRead box m (Cells width g) = Each (IsPlain (length box)) m.results × ((p : List ℕ) → InBox box p → InBox g.extents (map_point m p))
+IsRead box m (Cells width g) = Each (IsPlain (length box)) m.results
+    × ((p : List ℕ) → InBox box p → InBox g.extents (map_point m p))
 IsRead box m _ = ⊤
 
 abbrev pub AreRead : List ℕ → List MapShape → List Datum → Type 0
@@ -126,7 +131,8 @@ abbrev pub maps_of : List MapShape → List ℕ → List ℕ → List MapShape
 maps_of ms box ds = ms ++ select_map (length box) ds ∷ []
 
 -- its operands have the extents of its box, each dimension is alone in some axis, and it reads inside its operands
-pub record IsTyped (box : List ℕ) (ms : List MapShape) (ds : List ℕ) (ins : List Datum) (width : ℕ) (g : Grid) : Type 0 where
+pub record IsTyped (box : List ℕ) (ms : List MapShape) (ds : List ℕ) (ins : List Datum) (width : ℕ)
+    (g : Grid) : Type 0 where
   pub read : AreRead box ms ins
   pub has_box : HasBox box (maps_of ms box ds) (ins ++ Cells width g ∷ [])
   pub selects : Each (λ d. d < length box) ds
@@ -142,7 +148,8 @@ AllFit box [] [] = ⊤
 AllFit box (m ∷ ms) (x ∷ xs) = AxesFit box m x × AllFit box ms xs
 AllFit box _ _ = ⊥
 
-pub record FitsBox (box : List ℕ) (ms : List MapShape) (ds : List ℕ) (ins : List Datum) (width : ℕ) (g : Grid) : Type 0 where
+pub record FitsBox (box : List ℕ) (ms : List MapShape) (ds : List ℕ) (ins : List Datum) (width : ℕ)
+    (g : Grid) : Type 0 where
   pub inputs : AllFit box ms ins
   pub selects : Each (λ d. d < length box) ds
   pub extents : g.extents ≡ picks ds box
@@ -151,4 +158,5 @@ pub record FitsBox (box : List ℕ) (ms : List MapShape) (ds : List ℕ) (ins : 
 -- a payload that gives at a point what another gives at the point moved
 abbrev pub IsMoved : List ℕ → List ℕ → PayloadShape → List ℕ → PayloadShape → List ℕ → Type 0
 IsMoved os ns payload captured payload' captured' = (p : List ℕ) → InBox ns p → (ins : List ℕ) (out : ℕ) →
-    payload_value payload' (record { point = p; outer = captured'; ins = ins; out = out }) ≡ payload_value payload (record { point = plus p os; outer = captured; ins = ins; out = out })
+    payload_value payload' (record { point = p; outer = captured'; ins = ins; out = out })
+    ≡ payload_value payload (record { point = plus p os; outer = captured; ins = ins; out = out })

@@ -27,7 +27,8 @@ abbrev pub tile : (List ℕ → List ℕ) → (ℕ → List ℕ → Option ℕ) 
 tile out step os ns oo on g = settled on (generic_element out (moved step os) ns (slice_of g oo on))
 
 -- and its insertion
-abbrev pub tile_step : (List ℕ → List ℕ) → (ℕ → List ℕ → Option ℕ) → List ℕ → List ℕ → List ℕ → List ℕ → Grid → Option Grid
+abbrev pub tile_step : (List ℕ → List ℕ) → (ℕ → List ℕ → Option ℕ) → List ℕ → List ℕ → List ℕ → List ℕ → Grid →
+    Option Grid
 tile_step out step os ns oo on g = option_map (λ t. insert_into t oo g) (tile out step os ns oo on g)
 
 -- the tile where the output isn't sliced
@@ -35,10 +36,12 @@ abbrev pub whole_step : (List ℕ → List ℕ) → (ℕ → List ℕ → Option
 whole_step out step os ns g = settled g.extents (generic_element out (moved step os) ns g)
 
 -- the same where the tile begins from the start
-abbrev pub start_step : (List ℕ → List ℕ) → (ℕ → List ℕ → Option ℕ) → List ℕ → List ℕ → List ℕ → List ℕ → Grid → Grid → Option Grid
+abbrev pub start_step : (List ℕ → List ℕ) → (ℕ → List ℕ → Option ℕ) → List ℕ → List ℕ → List ℕ → List ℕ → Grid → Grid →
+    Option Grid
 start_step out step os ns oo on start g = option_map (λ t. insert_into t oo g) (tile out step os ns oo on start)
 
--- a region of a box, and the region of the output that its points write; `inner` is the output's point of a point of the tile
+-- a region of a box, and the region of the output that its points write; `inner` is the output's point of a point
+-- of the tile
 pub record Window (out inner : List ℕ → List ℕ) (box es os ns oo on : List ℕ) : Type 0 where
   pub fits : Fits box os ns
   pub out_fits : Fits es oo on
@@ -51,13 +54,18 @@ in_turn one qs g = fold (λ o q. option_and_then (one q) o) (Some g) qs
 
 -- each tile writes its own part of the output: where a point is written tells its tile
 abbrev pub WritesApart : (List ℕ → List ℕ) → List ℕ → List ℕ → (List ℕ → List ℕ) → (List ℕ → List ℕ) → Type 0
-WritesApart out box ts oo on = (q p : List ℕ) → InBox (tile_box box ts) q → InBox box p → lies_in (oo q) (on q) (out p) ≡ same_point (tile_of p ts) q
+WritesApart out box ts oo on = (q p : List ℕ) → InBox (tile_box box ts) q → InBox box p →
+    lies_in (oo q) (on q) (out p) ≡ same_point (tile_of p ts) q
 
 -- each tile's region of the box and of the output
-abbrev pub Windows : (List ℕ → List ℕ) → (List ℕ → List ℕ) → List ℕ → List ℕ → List ℕ → (List ℕ → List ℕ) → (List ℕ → List ℕ) → Type 0
-Windows out inner box es ts oo on = (q : List ℕ) → InBox (tile_box box ts) q → Window out inner box es (tile_offsets box ts q) (tile_sizes box ts q) (oo q) (on q)
+abbrev pub Windows : (List ℕ → List ℕ) → (List ℕ → List ℕ) → List ℕ → List ℕ → List ℕ → (List ℕ → List ℕ) →
+    (List ℕ → List ℕ) → Type 0
+Windows out inner box es ts oo on = (q : List ℕ) → InBox (tile_box box ts) q →
+    Window out inner box es (tile_offsets box ts q) (tile_sizes box ts q) (oo q) (on q)
 
 -- each tile adds the points of its region to a tensor of these extents
-abbrev pub AddsRegions : (List ℕ → List ℕ) → (ℕ → List ℕ → Option ℕ) → List ℕ → List ℕ → List ℕ → (List ℕ → Grid → Option Grid) → Type 0
+abbrev pub AddsRegions : (List ℕ → List ℕ) → (ℕ → List ℕ → Option ℕ) → List ℕ → List ℕ → List ℕ →
+    (List ℕ → Grid → Option Grid) → Type 0
 AddsRegions out step box es ts one = (q : List ℕ) → InBox (tile_box box ts) q → (cells : List ℕ) →
-    one q (record { extents = es; cells = cells }) ≡ region out step box (lies_in (tile_offsets box ts q) (tile_sizes box ts q)) (record { extents = es; cells = cells })
+    one q (record { extents = es; cells = cells }) ≡ region out step box
+    (lies_in (tile_offsets box ts q) (tile_sizes box ts q)) (record { extents = es; cells = cells })

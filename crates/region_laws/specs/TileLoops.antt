@@ -22,7 +22,8 @@ nest_op lower ty l ls inner current = for_op (level_loop lower ty current l) (ne
 -- one tile of which the output is sliced, and one of which it isn't
 abbrev pub sliced_tile : (ℕ → List ℕ → Option ℕ) → List ℕ → List ℕ → List ℕ → List ℕ → Grid → Option Grid
 sliced_tile step box ts ds q =
-    tile_step (picks ds) step (tile_offsets box ts q) (tile_sizes box ts q) (picks ds (tile_offsets box ts q)) (picks ds (tile_sizes box ts q))
+    tile_step (picks ds) step (tile_offsets box ts q) (tile_sizes box ts q) (picks ds (tile_offsets box ts q))
+    (picks ds (tile_sizes box ts q))
 
 abbrev pub whole_tile : (ℕ → List ℕ → Option ℕ) → List ℕ → List ℕ → List ℕ → List ℕ → Grid → Option Grid
 whole_tile step box ts ds q = whole_step (picks ds) step (tile_offsets box ts q) (tile_sizes box ts q)
@@ -30,19 +31,27 @@ whole_tile step box ts ds q = whole_step (picks ds) step (tile_offsets box ts q)
 -- and one from a tensor's start
 abbrev pub started_tile : (ℕ → List ℕ → Option ℕ) → List ℕ → List ℕ → List ℕ → Grid → List ℕ → Option Grid
 started_tile step box ts ds start q =
-    tile (picks ds) step (tile_offsets box ts q) (tile_sizes box ts q) (picks ds (tile_offsets box ts q)) (picks ds (tile_sizes box ts q)) start
+    tile (picks ds) step (tile_offsets box ts q) (tile_sizes box ts q) (picks ds (tile_offsets box ts q))
+    (picks ds (tile_sizes box ts q)) start
 
 -- in each state that comes to it the innermost body does the tile of its variables
-abbrev pub RunsTiles : (ℕ → Bool) → State → List (ℕ × ℕ) → List Level → ValueId → ℕ → List ℕ → (List ℕ → Grid → Option Grid) → List Op → Type 0
-RunsTiles N u dims ls current width es one inner = (q : List ℕ) (s : State) (cells : List ℕ) → InBox (counts dims) q → Knows N u s → InTurn dims ls q s →
-    s.values (last_arg ls current).0 ≡ Cells width (record { extents = es; cells = cells }) → run inner s ≡ ended (Cells width) (one q (record { extents = es; cells = cells }))
+abbrev pub RunsTiles : (ℕ → Bool) → State → List (ℕ × ℕ) → List Level → ValueId → ℕ → List ℕ →
+    (List ℕ → Grid → Option Grid) → List Op → Type 0
+RunsTiles N u dims ls current width es one inner = (q : List ℕ) (s : State) (cells : List ℕ) → InBox (counts dims) q →
+    Knows N u s → InTurn dims ls q s →
+    s.values (last_arg ls current).0 ≡ Cells width (record { extents = es; cells = cells }) →
+    run inner s ≡ ended (Cells width) (one q (record { extents = es; cells = cells }))
 
 -- and the body of a `scf.forall` notes the tile down
-abbrev pub NotesTiles : State → ForallHead → List (ℕ × ℕ) → (List ℕ → List ℕ) → (List ℕ → Option Grid) → List Op → Type 0
-NotesTiles u h dims offsets made_tile inner = (q : List ℕ) → InBox (counts dims) q → insertions_of (run inner (forall_state u h q)) ≡ noted (offsets q) (made_tile q)
+abbrev pub NotesTiles : State → ForallHead → List (ℕ × ℕ) → (List ℕ → List ℕ) → (List ℕ → Option Grid) → List Op →
+    Type 0
+NotesTiles u h dims offsets made_tile inner = (q : List ℕ) → InBox (counts dims) q →
+    insertions_of (run inner (forall_state u h q)) ≡ noted (offsets q) (made_tile q)
 
--- A NEST OVER THE TILES OF A TENSOR: the bounds are there, the loops' names are new, the innermost body does one tile, and the nest starts from the tensor
-pub record IsNest (N : ℕ → Bool) (u : State) (dims : List (ℕ × ℕ)) (lower : ValueId) (l : Level) (ls : List Level) (current : ValueId) (width : ℕ) (g : Grid) (one : List ℕ → Grid → Option Grid) (inner : List Op) : Type 0 where
+-- A NEST OVER THE TILES OF A TENSOR: the bounds are there, the loops' names are new, the innermost body does one
+-- tile, and the nest starts from the tensor
+pub record IsNest (N : ℕ → Bool) (u : State) (dims : List (ℕ × ℕ)) (lower : ValueId) (l : Level) (ls : List Level)
+    (current : ValueId) (width : ℕ) (g : Grid) (one : List ℕ → Grid → Option Grid) (inner : List Op) : Type 0 where
   pub low : HasNumber N u lower 0
   pub bounds : Bounded N u dims (l ∷ ls)
   pub new : AreNew N (l ∷ ls)

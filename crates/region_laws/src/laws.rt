@@ -1,5 +1,6 @@
 ghost use Rattle.region_laws.specs.Laws.{TypedByAxes, OperandsHaveTiles, TilesHaveBox, TiledGenericIsTile, TilesAddRegions, SliceOfWholeIsTile};
 ghost use Rattle.region_laws.specs.Laws.{IndicesMove, OthersStay, BodyDoesTile, BodyOfWholeOutput, BodyNotesTile, ForallBegins};
+ghost use Rattle.region_laws.specs.Laws.{MatmulTileIsMatmul, BatchMatmulTileIsBatchMatmul, FillTileIsFill, TransposeTileIsTranspose, BroadcastTileIsBroadcast};
 ghost use Rattle.region_laws.specs.Laws.{TileForMeansGeneric, TileForallMeansGeneric};
 
 // The functions here have no code: their contracts are the laws, over the definitions in `specs/`.
@@ -26,6 +27,15 @@ pub fn bodies_do_one_tile()
     ensures whole { BodyOfWholeOutput }
     ensures at_once { BodyNotesTile }
     ensures begins { ForallBegins }
+{}
+
+/// The tile of a named operation is one of its kind.
+pub fn named_tiles_are_named()
+    ensures matmul { MatmulTileIsMatmul }
+    ensures batch_matmul { BatchMatmulTileIsBatchMatmul }
+    ensures fill { FillTileIsFill }
+    ensures transpose { TransposeTileIsTranspose }
+    ensures broadcast { BroadcastTileIsBroadcast }
 {}
 
 /// Loops over the tiles of a generic mean what it means.

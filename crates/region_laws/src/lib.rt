@@ -13,5 +13,5 @@ mod laws;
 
 pub use laws::{
     bodies_do_one_tile, generics_have_tiles, loops_over_tiles_mean_the_whole,
-    payloads_move_with_tiles,
+    named_tiles_are_named, payloads_move_with_tiles,
 };
