@@ -1,4 +1,4 @@
--- The parts of the small functions of which values are worked out: numbers for values, types, operations, payloads and tensors.
+-- The parts of the small functions of which values are worked out: values by their numbers, types, maps, payloads, operations and tensors.
 use Rattle.std.proofs.Common.{ℕ, ◌+◌, ℤ, List, [], ◌∷◌, map, length}
 use Rattle.affine_maps.specs.Shape.{MapShape}
 use Rattle.affine_maps.specs.declared.map.Expr.{Expr}
