@@ -9,7 +9,7 @@ use payload_ops::Memory;
 use text_format::{Reason, Stopped};
 
 /// A fault of a tree's names, types or numbers, with the place of its token.
-#[derive(Clone, Copy, Debug)]
+#[derive(Clone, Copy)]
 pub enum Fault {
     /// A list has more or fewer entries than its partner: at the surplus comma or the early closer.
     Syntax(u32),
@@ -60,7 +60,7 @@ impl Fault {
 }
 
 /// Why a tree isn't resolved.
-#[derive(Clone, Copy, Debug)]
+#[derive(Clone, Copy)]
 pub enum Refused {
     At(Fault),
     Memory,

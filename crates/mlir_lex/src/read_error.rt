@@ -8,7 +8,7 @@ use payload_ops::Memory;
 use text_format::LexError;
 
 /// Why a text is refused. A place is the number of bytes before it; the end of the text is its length.
-#[derive(Clone, Copy, Debug, PartialEq, Eq)]
+#[derive(Clone, Copy)]
 pub enum ReadError {
     /// A byte outside a comment that begins no token, or can't stand in a quoted text.
     Byte(u32),

@@ -19,6 +19,3 @@ pub use tree::{
     StepOperation, Text, Transpose, TypedNumber, WrittenMap,
 };
 pub use whole::read_tree;
-
-#[cfg(test)]
-mod tests;

@@ -9,8 +9,6 @@
 #![tactic(auto)]
 
 mod read;
-#[cfg(test)]
-mod tests;
 mod tree;
 
 pub use tree::{
