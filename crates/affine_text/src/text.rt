@@ -7,7 +7,7 @@ ghost use Rattle.affine_text.specs.Text.{dimension_text, is_one, is_minus_one, f
 
 use affine_maps::{AffineMap, Expr};
 use itoa::Buffer;
-use payload_ops::{List, Memory};
+use mlir_base::{List, Memory};
 use std::alloc::Global;
 
 fn write_dimension(out: &mut Vec<u8>, dimension: u32) -> Result<(), Memory>

@@ -8,10 +8,11 @@ use crate::folds::kept;
 use crate::forms::{count_up, identity_map, places_of, select_map};
 use crate::payload_parts::Region;
 use crate::structured::{extents_of, region_result};
+use mlir_base::{ElemTy, List, Memory, Width};
 use mlir_grids::data::{copied_datum, width_of};
 use mlir_grids::maps::PointMap;
 use mlir_meaning::Datum;
-use payload_ops::{Arg, ElemTy, List, Memory, Width};
+use payload_ops::Arg;
 use std::alloc::Global;
 
 /// One value in a list.

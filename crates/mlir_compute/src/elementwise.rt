@@ -6,10 +6,11 @@ ghost use Rattle.mlir_meaning.specs.Vectors.{lane_payload, lane_value, elementwi
 
 use crate::folds::all_some;
 use crate::payload_parts::{Given, Region, payload_value};
+use mlir_base::{ElemTy, List, Memory, Width};
 use mlir_grids::boxes::{copied, points};
 use mlir_grids::data::{element, width_of};
 use mlir_meaning::{Datum, Grid};
-use payload_ops::{Arg, ElemTy, List, Memory, PayloadStep, StepOp, Width};
+use payload_ops::{Arg, PayloadStep, StepOp};
 use std::alloc::Global;
 
 /// The cells with their width and extents, if each is there.

@@ -4,11 +4,12 @@ ghost use Rattle.mlir_meaning.specs.Grids.{at, points, same_point, all_some};
 ghost use Rattle.mlir_meaning.specs.Points.{has, kept};
 ghost use Rattle.mlir_meaning.specs.Vectors.{reduction_of};
 
+use mlir_base::{List, Memory, Width};
 use mlir_grids::boxes::{at, copied, points, same_point, with_first};
 use mlir_grids::moves::sum;
 use mlir_grids::widths::binary_value;
 use mlir_meaning::Grid;
-use payload_ops::{BinOp, Combiner, List, Memory, Width};
+use payload_ops::{BinOp, Combiner};
 use std::alloc::Global;
 
 /// All values, if each is there.

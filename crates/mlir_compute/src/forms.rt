@@ -4,8 +4,8 @@ ghost use Rattle.mlir_meaning.specs.Grids.{count_up};
 ghost use Rattle.mlir_meaning.specs.Points.{place_of, select_map};
 
 use affine_maps::Expr;
+use mlir_base::{List, Memory};
 use mlir_grids::maps::PointMap;
-use payload_ops::{List, Memory};
 use std::alloc::Global;
 
 // The dimension alone.

@@ -1,11 +1,13 @@
 ghost use Rattle.std.specs.Prelude.{◌≡◌, ◌%◌, ◌^◌, ◌==◌, pos, ◌+ℤ◌, ◌*ℤ◌, IfOk, slice_index_or, unwrap_or, if◌then◌else◌, []};
 ghost use Rattle.payload_ops.specs.Bits.{reduce, signed_of, compares};
 ghost use Rattle.payload_ops.specs.Values.{arg_value, arg_bits, terms_sum, bit_of, step_value, steps_values, payload_value};
-ghost use Rattle.payload_ops.specs.Payload.{arg_type, bits_of};
+ghost use Rattle.payload_ops.specs.Payload.{arg_type};
+ghost use Rattle.mlir_base.specs.Types.{bits_of};
 
+use mlir_base::{ElemTy, List, Memory, Width};
 use mlir_grids::maps::sum;
 use mlir_grids::widths::{binary_value, compares, index_width, low_bits, signed_value, type_width};
-use payload_ops::{Arg, ElemTy, List, Memory, PayloadStep, Predicate, StepOp, Width, wrap};
+use payload_ops::{Arg, PayloadStep, Predicate, StepOp, wrap};
 use std::alloc::Global;
 use std::marker::Model;
 

@@ -6,10 +6,11 @@ ghost use Rattle.mlir_meaning.specs.Structured.{generic_result, step_of, multipl
 use crate::forms::select_map;
 use crate::payload_parts::Region;
 use crate::structured::region_result;
+use mlir_base::{ElemTy, List, Memory, Width};
 use mlir_grids::data::{copied_datum, width_of};
 use mlir_grids::maps::PointMap;
 use mlir_meaning::Datum;
-use payload_ops::{Arg, BinOp, ElemTy, List, Memory, PayloadStep, StepOp, Width};
+use payload_ops::{Arg, BinOp, PayloadStep, StepOp};
 use std::alloc::Global;
 
 // The steps of a payload, and what it yields.

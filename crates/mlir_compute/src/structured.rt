@@ -7,11 +7,12 @@ ghost use Rattle.mlir_meaning.specs.Structured.{axis_extent, operand_extent, gen
 use crate::elementwise::settled;
 use crate::payload_parts::{Given, Region, payload_value};
 use affine_maps::{AffineMap, Expr};
+use mlir_base::{List, Memory};
 use mlir_grids::boxes::{at, points, same_point, with_first};
 use mlir_grids::data::{element, grid_of, width_of};
 use mlir_grids::maps::{PointMap, map_point, point_maps, selects};
 use mlir_meaning::{Datum, Grid};
-use payload_ops::{List, Memory, Payload};
+use payload_ops::Payload;
 use std::alloc::Global;
 
 /// The extents of the grid that a value holds; none where it holds none.

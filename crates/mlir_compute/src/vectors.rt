@@ -6,13 +6,13 @@ ghost use Rattle.mlir_meaning.specs.Vectors.{mask_of, source_axes, lane_point, l
 
 use crate::payload_parts::bit_of;
 use affine_maps::AffineMap;
+use mlir_base::{List, Memory};
 use mlir_grids::boxes::{at, copied, is_inside, points, same_point};
 use mlir_grids::data::element;
 use mlir_grids::maps::dimension_of;
 use mlir_grids::moves::sum;
 use mlir_grids::packs::{coordinate, with_coordinate};
 use mlir_meaning::{Datum, Grid};
-use payload_ops::{List, Memory};
 use std::alloc::Global;
 
 /// A lane is on where each coordinate is below its size (Vector manual, "vector.create_mask").

@@ -1,6 +1,6 @@
 -- What the evaluator keeps while it runs, as states and outcomes.
 use Rattle.std.specs.Prelude.{◌≡◌, ℕ, ℤ, ◌==◌, List, [], ◌∷◌, ◌++◌, Option, Some, None, Result, Ok, Err, if◌then◌else◌}
-use Rattle.payload_ops.specs.declared.memory.Memory.{Memory}
+use Rattle.mlir_base.specs.declared.memory.Memory.{Memory}
 use Rattle.mlir_ir.specs.declared.tree.Ty.{Ty}
 use Rattle.mlir_ir.specs.declared.tree.ValueId.{ValueId}
 use Rattle.mlir_meaning.specs.States.{State, Outcome, Goes, Ends, Fails, set, set_all}

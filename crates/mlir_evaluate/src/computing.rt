@@ -6,11 +6,12 @@ ghost use Rattle.mlir_meaning.specs.Meaning.{kind_meaning};
 use crate::flow::{Flow, made};
 use crate::frames::{Frame, captured, value, values_of};
 use affine_maps::AffineMap;
+use mlir_base::{List, Memory};
 use mlir_compute::copies::{broadcast_result, fill_result, transpose_result};
 use mlir_compute::products::{batch_matmul_result, matmul_result};
 use mlir_compute::structured::generic_result;
 use mlir_ir::{Iter, Ty, ValueId};
-use payload_ops::{List, Memory, Payload};
+use payload_ops::Payload;
 use std::alloc::Global;
 
 #[tactic(auto, unfolding(mlir_meaning::specs::Meaning::kind_meaning))]

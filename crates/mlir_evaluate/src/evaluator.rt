@@ -9,12 +9,12 @@ ghost use Rattle.mlir_meaning.specs.Grids.{all_some};
 use crate::flow::Flow;
 use crate::frames::{Binding, Frame, bind_all, names_of};
 use crate::run::run;
+use mlir_base::{List, Memory, Width};
 use mlir_grids::boxes::copied;
 use mlir_grids::typed::widened;
 use mlir_grids::widths::low_bits;
 use mlir_ir::{Func, Tensor, Ty, ValueId};
 use mlir_meaning::{Answer, Datum, Fault, Grid};
-use payload_ops::{List, Memory, Width};
 use std::alloc::Global;
 
 /// What the function gives on its inputs, which its parameters hold in order: its result tensors, or

@@ -3,9 +3,9 @@ ghost use Rattle.mlir_evaluate.specs.Frames.{Follows, state_of};
 ghost use Rattle.mlir_meaning.specs.States.{defines, made, indexed};
 
 use crate::frames::{Frame, bind_all, names_of};
+use mlir_base::{List, Memory};
 use mlir_ir::{Ty, ValueId};
 use mlir_meaning::{Datum, Fault};
-use payload_ops::{List, Memory};
 use std::alloc::Global;
 
 /// How a run goes on: where it stands, the values with which its body ends, or why it fails.

@@ -5,11 +5,11 @@ ghost use Rattle.mlir_meaning.specs.Meaning.{values_in, numbers_in, sizes_in, pl
 ghost use Rattle.mlir_meaning.specs.Moves.{like};
 ghost use Rattle.mlir_evaluate.specs.Frames.{bound};
 
+use mlir_base::{List, Memory};
 use mlir_grids::boxes::to_nat;
 use mlir_grids::data::{copied_datum, element, grid_of, like, number_of};
 use mlir_ir::{Idx, Ty, ValueId};
 use mlir_meaning::{Datum, Grid, Insertion};
-use payload_ops::{List, Memory};
 use std::alloc::Global;
 
 /// A value with what it holds.

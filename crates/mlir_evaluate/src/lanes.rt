@@ -6,6 +6,7 @@ ghost use Rattle.mlir_meaning.specs.Meaning.{kind_meaning};
 use crate::flow::{Flow, gives, made};
 use crate::frames::{Frame, grid, grid_like, optional_value, scalar, sizes, value, values_of};
 use affine_maps::AffineMap;
+use mlir_base::{List, Memory, Width};
 use mlir_compute::elementwise::elementwise_result;
 use mlir_compute::folds::reduction_of;
 use mlir_compute::vectors::{mask_of, read_of, write_of};
@@ -13,7 +14,7 @@ use mlir_grids::data::width_of;
 use mlir_grids::typed::{result_extents, result_width};
 use mlir_ir::{Ty, ValueId};
 use mlir_meaning::Datum;
-use payload_ops::{Combiner, List, Memory, StepOp, Width};
+use payload_ops::{Combiner, StepOp};
 use std::alloc::Global;
 
 #[tactic(auto, unfolding(mlir_meaning::specs::Meaning::kind_meaning))]

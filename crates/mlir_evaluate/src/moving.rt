@@ -5,12 +5,12 @@ ghost use Rattle.mlir_meaning.specs.Meaning.{kind_meaning};
 
 use crate::flow::{Flow, gives};
 use crate::frames::{Frame, grid, grid_like, optional_scalar, places, scalar, sizes};
+use mlir_base::{List, Memory};
 use mlir_grids::moves::{empty_of, insert_into, pad_of, slice_of};
 use mlir_grids::packs::{pack_of, unpack_of};
 use mlir_grids::typed::{result_extents, result_width};
 use mlir_ir::{Idx, Ty, ValueId};
 use mlir_meaning::Datum;
-use payload_ops::{List, Memory};
 use std::alloc::Global;
 
 #[tactic(auto, unfolding(mlir_meaning::specs::Meaning::kind_meaning))]

@@ -12,10 +12,10 @@ use crate::moving::{empty, extract_slice, insert_slice, pack, pad, unpack};
 use crate::scalars::{apply, constant, least, returns, yields};
 use crate::tiles::{finished, joined, parallel_insert};
 use crate::turns::{number_at, push_counts, push_numbers, starts, tile_frame, trips, turn_frame};
+use mlir_base::{List, Memory};
 use mlir_grids::boxes::points;
 use mlir_ir::{Idx, Op, OpKind, Ty, ValueId};
 use mlir_meaning::{Datum, Fault, Insertion};
-use payload_ops::{List, Memory};
 use std::alloc::Global;
 
 /// Runs operations in order.

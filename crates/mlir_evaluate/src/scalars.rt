@@ -9,10 +9,10 @@ ghost use Rattle.mlir_meaning.specs.States.{Ends};
 use crate::flow::{Flow, gives, indexed};
 use crate::frames::{Frame, numbers, values_of};
 use affine_maps::{AffineMap, Expr};
+use mlir_base::{List, Memory};
 use mlir_grids::maps::value_at;
 use mlir_grids::typed::constant_of;
 use mlir_ir::{Ty, ValueId};
-use payload_ops::{List, Memory};
 use std::alloc::Global;
 
 #[tactic(auto, unfolding(mlir_meaning::specs::Meaning::kind_meaning))]

@@ -8,10 +8,11 @@ mod structured;
 mod vectors;
 
 use build::Input;
+use mlir_base::{Memory, Width};
 use mlir_grids::typed::widened;
 use mlir_ir::Tensor;
 use mlir_meaning::{Answer, Fault, Grid};
-use payload_ops::{Memory, Width, wrap};
+use payload_ops::wrap;
 use std::alloc::Global;
 
 fn tensor(alloc: Global, table: &Input<'_>) -> Result<Tensor, Memory> {

@@ -7,11 +7,11 @@ ghost use Rattle.mlir_meaning.specs.Meaning.{kind_meaning, places_in};
 
 use crate::flow::{Flow, defines};
 use crate::frames::{Frame, grid, places};
+use mlir_base::{List, Memory};
 use mlir_grids::data::{copied_datum, copied_grid};
 use mlir_grids::moves::insert_into;
 use mlir_ir::{Idx, Ty, ValueId};
 use mlir_meaning::{Datum, Fault, Grid, Insertion};
-use payload_ops::{List, Memory};
 use std::alloc::Global;
 
 /// The insertions into the output of a position, one after another.

@@ -4,9 +4,9 @@ ghost use Rattle.mlir_meaning.specs.Grids.{InBox};
 ghost use Rattle.mlir_meaning.specs.Loops.{trips, trip_counts, numbers_at, arguments, starts};
 
 use crate::frames::{Binding, Frame, bind, bind_all, copied, value};
+use mlir_base::{List, Memory};
 use mlir_ir::{Ty, ValueId};
 use mlir_meaning::Datum;
-use payload_ops::{List, Memory};
 use std::alloc::Global;
 
 /// How many numbers from `lower` by `step` lie below `upper`.

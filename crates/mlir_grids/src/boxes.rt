@@ -3,8 +3,8 @@ ghost use Rattle.mlir_ir.specs.Shape.{volume};
 ghost use Rattle.mlir_meaning.specs.Grids.{points, place, count_up, at, plus, minus, is_inside, lies_in, same_point};
 ghost use Rattle.mlir_meaning.specs.Points.{to_nat};
 
+use mlir_base::{List, Memory};
 use mlir_meaning::Grid;
-use payload_ops::{List, Memory};
 use std::alloc::Global;
 
 /// A number as a coordinate, an offset or a size; one below 0 counts as 0.

@@ -5,8 +5,9 @@ ghost use Rattle.mlir_meaning.specs.Moves.{like};
 
 use crate::boxes::{at, copied};
 use crate::widths::index_width;
+use mlir_base::{List, Memory, Width};
 use mlir_meaning::{Datum, Grid};
-use payload_ops::{List, Memory, Width, wrap};
+use payload_ops::wrap;
 use std::alloc::Global;
 
 /// A copy of a grid.

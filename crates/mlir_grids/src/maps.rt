@@ -3,7 +3,7 @@ ghost use Rattle.affine_maps.specs.Value.{coordinate, weighted_sum, value_at};
 ghost use Rattle.mlir_meaning.specs.Points.{to_nat, map_point, is_one, is_zero, lone_dimension, dimension_of, selects};
 
 use affine_maps::{AffineMap, Expr};
-use payload_ops::{List, Memory};
+use mlir_base::{List, Memory};
 use std::alloc::Global;
 use std::marker::Model;
 

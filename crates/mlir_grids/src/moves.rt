@@ -3,8 +3,8 @@ ghost use Rattle.mlir_meaning.specs.Grids.{at, plus, minus, is_inside, lies_in};
 ghost use Rattle.mlir_meaning.specs.Moves.{slice_of, insert_into, pad_of, empty_of, pack_of, unpack_of, unpacked_point, outer_point, inner_point};
 
 use crate::boxes::{at, copied, is_inside, points, with_first};
+use mlir_base::{List, Memory};
 use mlir_meaning::Grid;
-use payload_ops::{List, Memory};
 use std::alloc::Global;
 
 /// A sum that a `u64` holds.

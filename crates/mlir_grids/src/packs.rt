@@ -4,8 +4,8 @@ ghost use Rattle.mlir_meaning.specs.Moves.{pack_of, unpack_of, unpacked_point, o
 
 use crate::boxes::{at, copied, points, with_first};
 use crate::moves::padded_cell;
+use mlir_base::{List, Memory};
 use mlir_meaning::Grid;
-use payload_ops::{List, Memory};
 use std::alloc::Global;
 
 // A coordinate that a `u64` holds.

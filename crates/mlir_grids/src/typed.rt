@@ -5,9 +5,10 @@ ghost use Rattle.mlir_meaning.specs.Meaning.{result_type, type_width, type_exten
 
 use crate::boxes::{copied, points};
 use crate::widths::index_width;
+use mlir_base::{ElemTy, List, Memory, Width};
 use mlir_ir::{Extent, Ty, ValueId};
 use mlir_meaning::{Datum, Grid};
-use payload_ops::{ElemTy, List, Memory, Width, signed};
+use payload_ops::signed;
 use std::alloc::Global;
 
 /// The bits of an element of an operation's result.

@@ -1,8 +1,9 @@
 ghost use Rattle.std.specs.Prelude.{◌≡◌, ◌%◌, ◌^◌, ◌<◌, unwrap_or, Option, IfOk};
 ghost use Rattle.payload_ops.specs.Bits.{reduce, signed_of, binary_of, compares};
-ghost use Rattle.payload_ops.specs.Payload.{bits_of};
+ghost use Rattle.mlir_base.specs.Types.{bits_of};
 
-use payload_ops::{BinOp, ElemTy, Predicate, Width, binary, compare, signed, wrap};
+use mlir_base::{ElemTy, Width};
+use payload_ops::{BinOp, Predicate, binary, compare, signed, wrap};
 
 /// The width of an `index`.
 pub fn index_width() -> Width

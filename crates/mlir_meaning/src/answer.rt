@@ -1,5 +1,5 @@
+use mlir_base::List;
 use mlir_ir::Tensor;
-use payload_ops::List;
 
 /// Why a run gives no tensors.
 #[derive(Clone, Copy, Debug, PartialEq, Eq)]

@@ -1,4 +1,4 @@
-use payload_ops::{List, Width};
+use mlir_base::{List, Width};
 
 /// The cells of a tensor or a vector in row-major order, one for each point of the box of these extents
 /// (Builtin manual, "RankedTensorType" and "VectorType").

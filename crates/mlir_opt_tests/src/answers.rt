@@ -1,7 +1,7 @@
 //! One run of the command over one file, and tables of rows.
 
+use mlir_base::{List, Name};
 use mlir_opt::{CleanShelf, CleanSink, mlir_opt};
-use payload_ops::{List, Name};
 use std::alloc::{AllocError, Global};
 
 /// One file.

@@ -1,8 +1,8 @@
 //! Words, and streams that fail.
 
 use crate::answers::{answer, one_file, words};
+use mlir_base::List;
 use mlir_opt::{MemShelf, MemSink, mlir_opt};
-use payload_ops::List;
 use std::alloc::{AllocError, Global};
 use std::test::Fail;
 

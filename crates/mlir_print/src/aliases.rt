@@ -10,7 +10,7 @@ use affine_maps::AffineMap;
 use affine_text::map_text;
 use indexmap::IndexSet;
 use itoa::Buffer;
-use payload_ops::Memory;
+use mlir_base::Memory;
 use std::alloc::Global;
 use std::marker::Model;
 

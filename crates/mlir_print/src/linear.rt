@@ -8,7 +8,8 @@ ghost use Rattle.mlir_print.specs.MapParts.{with_texts};
 
 use crate::aliases::{Aliases, add_maps};
 use affine_maps::{AffineMap, Expr};
-use payload_ops::{Arg, List, Memory, Payload, PayloadStep, StepOp};
+use mlir_base::{List, Memory};
+use payload_ops::{Arg, Payload, PayloadStep, StepOp};
 use std::alloc::Global;
 
 /// The coefficients of the terms, each with the number of its dimension.

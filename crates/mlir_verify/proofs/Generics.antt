@@ -4,7 +4,7 @@ use Rattle.std.specs.Prelude.{not, IfOk}
 use Rattle.std.specs.List.{list_all, zip}
 use Rattle.std.specs.BTreeMap.{BTreeMap}
 use Rattle.std.specs.BTreeSet.{BTreeSet}
-use Rattle.payload_ops.specs.declared.memory.Memory.{Memory}
+use Rattle.mlir_base.specs.declared.memory.Memory.{Memory}
 use Rattle.affine_maps.specs.Shape.{MapShape}
 use Rattle.affine_maps.specs.Permutation.{is_projected_permutation}
 use Rattle.mlir_ir.specs.declared.tree.Extent.{Extent}

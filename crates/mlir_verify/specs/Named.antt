@@ -3,7 +3,7 @@
 use Rattle.std.specs.Prelude.{ℕ, ◌==◌, ◌+◌, ◌&&◌, not, nat_lt, nat_le, Bool, false, List, length, Option, Some, None}
 use Rattle.std.specs.List.{list_all}
 use Rattle.affine_maps.specs.Permutation.{repeats}
-use Rattle.payload_ops.specs.declared.kinds.ElemTy.TheVariants.{Int}
+use Rattle.mlir_base.specs.declared.types.ElemTy.TheVariants.{Int}
 use Rattle.mlir_ir.specs.declared.tree.Ty.{Ty}
 use Rattle.mlir_ir.specs.declared.tree.Ty.TheVariants.{Scalar, Tensor}
 use Rattle.mlir_ir.specs.declared.tree.ValueId.{ValueId}

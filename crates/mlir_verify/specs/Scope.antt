@@ -5,7 +5,7 @@ use Rattle.std.specs.BTreeSet as sorted
 use Rattle.std.specs.BTreeSet.{BTreeSet}
 use Rattle.std.specs.Ordering.{nat_cmp}
 use Rattle.mlir_verify.specs.declared.scope.Scope.{Scope}
-use Rattle.payload_ops.specs.declared.memory.Memory.{Memory}
+use Rattle.mlir_base.specs.declared.memory.Memory.{Memory}
 use Rattle.mlir_verify.specs.Place.{Types}
 use Rattle.mlir_verify.specs.Constants.{Constants}
 use Rattle.mlir_verify.specs.Names.{is_among, repeats}

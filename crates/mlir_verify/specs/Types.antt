@@ -2,8 +2,8 @@
 -- "tensor.empty"; Func, "func.return"; `Constants` and `Named` have the other operations).
 use Rattle.std.specs.Prelude.{ℕ, ◌==◌, ◌&&◌, not, nat_lt, Bool, true, false, List, [], ◌∷◌, length, Option, Some, None}
 use Rattle.std.specs.List.{list_all, zip}
-use Rattle.payload_ops.specs.declared.kinds.ElemTy.{ElemTy}
-use Rattle.payload_ops.specs.declared.kinds.ElemTy.TheVariants.{Int}
+use Rattle.mlir_base.specs.declared.types.ElemTy.{ElemTy}
+use Rattle.mlir_base.specs.declared.types.ElemTy.TheVariants.{Int}
 use Rattle.payload_ops.specs.declared.step.StepOp.{StepOp}
 use Rattle.payload_ops.specs.declared.step.StepOp.TheVariants as S
 use Rattle.payload_ops.specs.Shape.{PayloadShape}

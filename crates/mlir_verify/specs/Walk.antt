@@ -1,7 +1,7 @@
 -- What the walk over a module's operations keeps and answers.
 use Rattle.std.specs.Prelude.{◌≡◌, ℕ, Bool, true, false, List, [], ◌∷◌, ◌++◌, Some, None, Result, Ok, Err, ⊤}
 use Rattle.std.specs.List.{flat_map}
-use Rattle.payload_ops.specs.declared.memory.Memory.{Memory}
+use Rattle.mlir_base.specs.declared.memory.Memory.{Memory}
 use Rattle.mlir_ir.specs.Shape.{FuncShape}
 use Rattle.mlir_ir.specs.declared.tree.Op.{Op}
 use Rattle.mlir_verify.specs.declared.rule.Refused.{Refused}

@@ -17,8 +17,8 @@ use crate::scope::Scope;
 use crate::tensors::{extents_of, result_type};
 use crate::windows::inputs_stay_in;
 use affine_maps::AffineMap;
+use mlir_base::Memory;
 use mlir_ir::{Extent, Func, Iter, Op, OpKind, Ty, ValueId};
-use payload_ops::Memory;
 use std::alloc::Global;
 use std::collections::{BTreeMap, BTreeSet};
 

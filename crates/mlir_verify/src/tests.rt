@@ -2,10 +2,9 @@
 
 use crate::{Refused, Rule, verify};
 use affine_maps::{AffineMap, Expr};
+use mlir_base::{ElemTy, List, Memory, Name, Width};
 use mlir_ir::{Extent, Func, Iter, Module, Op, OpId, OpKind, Ty, ValueId};
-use payload_ops::{
-    Arg, BinOp, ElemTy, List, Memory, Name, Payload, PayloadStep, StepOp, Width, payload,
-};
+use payload_ops::{Arg, BinOp, Payload, PayloadStep, StepOp, payload};
 use std::alloc::Global;
 
 /// What changes from row to row: `@add` of two tensors of three elements, into an empty tensor.

@@ -10,8 +10,9 @@ use crate::named::{is_typed_broadcast, is_typed_fill, is_typed_product, is_typed
 use crate::scope::Scope;
 use crate::tensors::{has_elements, is_alike, is_tensor, result_type};
 use affine_maps::AffineMap;
+use mlir_base::ElemTy;
 use mlir_ir::{Func, Iter, Op, OpKind, Ty, ValueId};
-use payload_ops::{ElemTy, Payload, PayloadStep, StepOp};
+use payload_ops::{Payload, PayloadStep, StepOp};
 
 fn names_present(dims: usize, captured: usize, op: &StepOp) -> bool
     ensures { result ≡ names_present dims captured op.now }

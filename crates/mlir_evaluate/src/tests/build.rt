@@ -4,11 +4,10 @@
 use super::tensor;
 use crate::evaluate;
 use affine_maps::{AffineMap, Expr};
+use mlir_base::{ElemTy, List, Memory, Name, Width};
 use mlir_ir::{Extent, Func, Idx, Iter, Op, OpId, OpKind, Tensor, Ty, ValueId};
 use mlir_meaning::Answer;
-use payload_ops::{
-    Arg, ElemTy, List, Memory, Name, Payload, PayloadStep, StepOp, Width, payload, wrap,
-};
+use payload_ops::{Arg, Payload, PayloadStep, StepOp, payload, wrap};
 use std::alloc::Global;
 
 /// A type, by the bits of an element and the extents.

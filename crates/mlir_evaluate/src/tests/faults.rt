@@ -1,12 +1,10 @@
 //! Functions that are stuck.
 
-use super::build::{
-    Body, Bounds, Type, affine, apply, counted_loop, insert_in_parallel, parallel_loop, table,
-};
+use super::build::{Body, Bounds, Type, affine, apply, counted_loop, insert_in_parallel, parallel_loop, table};
 use super::{fails, gives};
+use mlir_base::Memory;
 use mlir_ir::Idx;
 use mlir_meaning::{Answer, Fault};
-use payload_ops::Memory;
 use std::alloc::Global;
 
 const ONE: Type<'static> = Type::Tensor(32, &[1]);

@@ -1,13 +1,11 @@
 //! Loops.
 
-use super::build::{
-    Body, Bounds, Operands, Type, affine, apply, counted_loop, generic, insert, insert_in_parallel,
-    least, number, one_step, parallel_loop, slice, table,
-};
+use super::build::{Body, Bounds, Operands, Type, affine, apply, counted_loop, generic, insert, insert_in_parallel, least, number, one_step, parallel_loop, slice, table};
 use super::gives;
+use mlir_base::Memory;
 use mlir_ir::{Extent, Idx, Iter, OpKind};
 use mlir_meaning::Answer;
-use payload_ops::{Arg, BinOp, Memory, StepOp};
+use payload_ops::{Arg, BinOp, StepOp};
 use std::alloc::Global;
 
 const ROW: Type<'static> = Type::Tensor(32, &[3]);

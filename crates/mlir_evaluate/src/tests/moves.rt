@@ -2,9 +2,9 @@
 
 use super::build::{Body, Input, Type, empty, insert, list, number, single, slice, table};
 use super::gives;
+use mlir_base::Memory;
 use mlir_ir::{Extent, Idx, OpKind, ValueId};
 use mlir_meaning::Answer;
-use payload_ops::Memory;
 use std::alloc::Global;
 
 const ROWS: [i64; 12] = [1, 2, 3, 4, 5, 6, 7, 8, 9, 10, 11, 12];

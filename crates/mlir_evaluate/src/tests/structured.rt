@@ -1,13 +1,11 @@
 //! Structured operations.
 
-use super::build::{
-    Body, Input, Operands, Steps, Type, affine, apply, generic, least, list, one_step, single,
-    table,
-};
+use super::build::{Body, Input, Operands, Steps, Type, affine, apply, generic, least, list, one_step, single, table};
 use super::{fails, gives};
+use mlir_base::{List, Memory};
 use mlir_ir::{Iter, OpKind, ValueId};
 use mlir_meaning::{Answer, Fault};
-use payload_ops::{Arg, BinOp, List, Memory, Payload, StepOp};
+use payload_ops::{Arg, BinOp, Payload, StepOp};
 use std::alloc::Global;
 
 /// A `linalg.generic` on two tensors of one axis, element by element, into an empty tensor. Its result is

@@ -2,9 +2,10 @@
 
 use super::build::{Body, Type, affine, elementwise, list, mask, read, select, table, write};
 use super::{fails, gives};
+use mlir_base::Memory;
 use mlir_ir::{OpKind, ValueId};
 use mlir_meaning::{Answer, Fault};
-use payload_ops::{Arg, BinOp, Combiner, Memory, Predicate, StepOp};
+use payload_ops::{Arg, BinOp, Combiner, Predicate, StepOp};
 use std::alloc::Global;
 
 const LANES: Type<'static> = Type::Vector(32, &[4]);

@@ -2,7 +2,7 @@ use Rattle.std.proofs.Common.{rules, ◌≡◌, ℕ, ◌%◌, ◌^◌, ℤ, ◌+
 use Rattle.std.proofs.lemmas.Int.{to_z-of_z}
 use Rattle.payload_ops.specs.declared.step.Arg.{Arg}
 use Rattle.payload_ops.specs.Shape.{PayloadShape}
-use Rattle.payload_ops.specs.Payload.{bits_of}
+use Rattle.mlir_base.specs.Types.{bits_of}
 use Rattle.payload_ops.specs.Bits.{binary_of, reduce}
 use Rattle.payload_ops.specs.Values.{Given, arg_value, arg_bits, op_value, step_value, terms_sum}
 use Rattle.payload_ops.specs.declared.step.PayloadStep.{PayloadStep}

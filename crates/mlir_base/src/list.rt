@@ -73,19 +73,3 @@ impl<T: Drop> List<T> {
         Ok(())
     }
 }
-
-#[cfg(test)]
-mod tests {
-    use super::List;
-    use crate::memory::Memory;
-
-    #[test]
-    fn keeps_the_order_of_pushes(rt: HostRuntime) -> Result<(), Memory> {
-        let mut list = List::new(rt.alloc());
-        list.push(3u8)?;
-        list.push(5u8)?;
-        assert_eq!(rt; list.as_slice(), [3, 5].as_slice());
-        assert_eq!(rt; list.len(), 2);
-        Ok(())
-    }
-}

@@ -2,7 +2,7 @@
 use Rattle.std.proofs.Common.{length, le_refl}
 use Rattle.std.proofs.lemmas.Str.{IsUtf8-from_ascii}
 use Rattle.std.proofs.lemmas.Str.Ascii.{IsAscii-from_reads}
-use Rattle.payload_ops.proofs.name.Name.from_ascii.Goals as goal
+use Rattle.mlir_base.proofs.name.Name.from_ascii.Goals as goal
 
 pub unreachable-requires : goal.unreachable-requires
 unreachable-requires c =

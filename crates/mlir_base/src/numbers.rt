@@ -1,5 +1,5 @@
 ghost use Rattle.std.specs.Prelude.{◌≡◌};
-ghost use Rattle.payload_ops.specs.Numbers.{is_in_range, is_coefficient};
+ghost use Rattle.mlir_base.specs.Numbers.{is_in_range, is_coefficient};
 
 /// Tells whether a number of a linear form lies within plus and minus 2^31.
 pub fn is_in_range(n: i64) -> bool

@@ -18,10 +18,10 @@ use Rattle.std.specs.formers.vec.Vec as vec
 use Rattle.std.specs.declared.alloc.Global.{Global}
 use Rattle.std.specs.contracts.alloc.Global as heap
 use Rattle.std.specs.contracts.impls.GlobalAllocator.TheImpl.{ghosts}
-use Rattle.payload_ops.specs.declared.list.List.TheInside.{Inside}
-use Rattle.payload_ops.specs.declared.list.List.TheView.{view, invariant}
-use Rattle.payload_ops.specs.contracts.list.List as C
-use Rattle.payload_ops.specs.contracts.list.List.TheInside as I
+use Rattle.mlir_base.specs.declared.list.List.TheInside.{Inside}
+use Rattle.mlir_base.specs.declared.list.List.TheView.{view, invariant}
+use Rattle.mlir_base.specs.contracts.list.List as C
+use Rattle.mlir_base.specs.contracts.list.List.TheInside as I
 
 abbrev pub the_former : Former {0} → Former {0}
 the_former g = list g

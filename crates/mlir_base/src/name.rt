@@ -46,18 +46,3 @@ impl Name {
         self.text.as_str()
     }
 }
-
-#[cfg(test)]
-mod tests {
-    use super::Name;
-    use crate::memory::Memory;
-
-    #[test]
-    fn holds_its_text(rt: HostRuntime) -> Result<(), Memory> {
-        let name = Name::new(rt.alloc(), "f")?;
-        assert_eq!(rt; name.as_str(), "f");
-        let name = Name::from_ascii(rt.alloc(), b"g")?;
-        assert_eq!(rt; name.as_str(), "g");
-        Ok(())
-    }
-}
