@@ -18,4 +18,4 @@ pub use tree::{
     ScriptModule, SelectStep, SeveralResults, Sign, SignedNumber, SourceAndOutput, Statement, Step,
     StepOperation, Text, Transpose, TypedNumber, WrittenMap,
 };
-pub use whole::read_tree;
+pub use whole::{read_tree, release};

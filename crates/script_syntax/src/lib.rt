@@ -11,6 +11,7 @@
 mod read;
 mod tree;
 
+pub use read::release;
 pub use tree::{
     BehindFirst, BehindSecond, BehindThird, Further, FuseStep, Group, GroupStep, GroupTypes,
     HandleStep, Line, ManyResults, MatchStep, MoreTypes, Multiples, NamedStep, NextResult,
