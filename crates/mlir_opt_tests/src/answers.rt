@@ -45,7 +45,11 @@ pub fn answer(
     let ended = mlir_opt(alloc, &all, &mut shelf, &mut out, &mut err);
     if out.bytes().is_empty() {
         let line = String::from_utf8_lossy(alloc, err.bytes())?;
-        return if ended == status { Ok(line) } else { format!(in alloc; "{ended} {line}") };
+        return if ended == status {
+            Ok(line)
+        } else {
+            format!(in alloc; "{ended} {line}")
+        };
     }
     if ended == 0 && err.bytes().is_empty() {
         return String::from_utf8_lossy(alloc, out.bytes());

@@ -103,7 +103,13 @@ const DEPTHS: &str = "ok|((((((((((((((((((((((((((((((((1))))))))))))))))))))))
 fn maps(rt: HostRuntime) -> Result<(), Fail> {
     let mut wrong = wrong_rows(rt.alloc(), MAPS, "#a =\n", "", "")?;
     let before = "#a = affine_map<() -> (((((((((((((((((((((((((((((((((\n";
-    let deep = wrong_rows(rt.alloc(), DEPTHS, before, "", ")))))))))))))))))))))))))))))))))>")?;
+    let deep = wrong_rows(
+        rt.alloc(),
+        DEPTHS,
+        before,
+        "",
+        ")))))))))))))))))))))))))))))))))>",
+    )?;
     wrong.push_str(deep.as_str())?;
     assert!(rt; wrong.is_empty(), "{wrong}");
     Ok(())
@@ -177,7 +183,8 @@ func.func @f(%a: tensor<2xi8>) -> tensor<2xi8> {
 fn generics(rt: HostRuntime) -> Result<(), Fail> {
     let alloc = rt.alloc();
     let ty = "tensor<2xi8>";
-    let block = "^bb0(%x: i8, %y: i8): linalg.yield %x : i8 } -> tensor<2xi8> return %r : tensor<2xi8> }";
+    let block =
+        "^bb0(%x: i8, %y: i8): linalg.yield %x : i8 } -> tensor<2xi8> return %r : tensor<2xi8> }";
     let mut wrong = wrong_rows(alloc, OPERANDS, FUNCTION, ty, block)?;
     let before = format!(in alloc;
         "{FUNCTION}[#m, #m], iterator_types = [\"parallel\"]}} ins(%a : {ty}) outs(%a : {ty}) {{ ^bb0\n"

@@ -26,13 +26,6 @@ ok|module { module attributes {transform.with_named_sequence} { ~ } func.func @f
 1:223: syntax|module { module attributes {transform.with_named_sequence} { ~ func.func @g() { return } } }
 1:78: syntax|module attributes {transform.with_named_sequence} { transform.named_sequence @main()";
 
-#[test]
-fn places(rt: HostRuntime) -> Result<(), Fail> {
-    let wrong = wrong_rows(rt.alloc(), PLACES, "", SCRIPT, "")?;
-    assert!(rt; wrong.is_empty(), "{wrong}");
-    Ok(())
-}
-
 /// Steps over the root `%m`; `~` is a handle's type.
 const STEPS: &str = "ok|
 3:38: unknown-name|%a = transform.structured.generalize %a : (~) -> ~
@@ -50,17 +43,16 @@ const STEPS: &str = "ok|
 3:61: number|%a, %b, %c = transform.structured.pad %m {padding_values = [-129 : i8], padding_dimensions = [0]
 4:1: syntax|%a, %b, %c = transform.structured.pad %m {padding_values = [18446744073709551616 :";
 
-#[test]
-fn steps(rt: HostRuntime) -> Result<(), Fail> {
-    let wrong = wrong_rows(
-        rt.alloc(),
-        STEPS,
-        "module attributes {transform.with_named_sequence} {
+const BEFORE: &str = "module attributes {transform.with_named_sequence} {
 transform.named_sequence @__transform_main(%m: !transform.any_op {transform.readonly}) {
-",
-        "!transform.any_op",
-        "\ntransform.yield } }",
-    )?;
+";
+
+#[test]
+fn scripts(rt: HostRuntime) -> Result<(), Fail> {
+    let mut wrong = wrong_rows(rt.alloc(), PLACES, "", SCRIPT, "")?;
+    let behind = "\ntransform.yield } }";
+    let steps = wrong_rows(rt.alloc(), STEPS, BEFORE, "!transform.any_op", behind)?;
+    wrong.push_str(steps.as_str())?;
     assert!(rt; wrong.is_empty(), "{wrong}");
     Ok(())
 }

@@ -56,7 +56,10 @@ fn streams_fail(rt: HostRuntime) -> Result<(), Fail> {
         let mut err = MemSink::new(alloc, 7, failing(alloc, err_fails)?);
         let all = words(alloc, &[])?;
         let ended = mlir_opt(alloc, &all, &mut shelf, &mut out, &mut err);
-        assert!(rt; ended == status, "{shelf_fails} {most} {out_fails} {err_fails}");
+        assert!(rt;
+            ended == status,
+            "{shelf_fails} {most} {out_fails} {err_fails}"
+        );
         assert!(rt; out.bytes().len() == held && TEXT.as_bytes().starts_with(out.bytes()));
         assert!(rt; err.bytes() == line.as_bytes(), "{line}");
     }

@@ -22,7 +22,8 @@ fn printed(alloc: Global, text: &str) -> Result<String, AllocError> {
     }
 }
 
-const SCRIPT: &str = "transform.named_sequence @__transform_main(%m: !transform.any_op {transform.readonly}) {
+const SCRIPT: &str =
+    "transform.named_sequence @__transform_main(%m: !transform.any_op {transform.readonly}) {
 %a = transform.structured.match ops{[\"linalg.generic\"]} in %m : (!transform.any_op) -> !transform.any_op
 %b, %c = transform.split_handle %a : (!transform.any_op) -> (!transform.any_op, !transform.any_op)
 transform.structured.vectorize %c : !transform.any_op transform.yield } func.func";

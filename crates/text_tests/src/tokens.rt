@@ -42,7 +42,8 @@ fn described(alloc: Global, text: &str) -> Result<String, AllocError> {
 }
 
 /// Rows between `~`: the tokens, and behind `|` the text.
-const ROWS: &str = "|~| \t\r\n~|// \u{ff} \" tensor<~W0-1 W5-7 |a//b\n_c~byte 0|/~W0-9 W10-13 |func.func a$1~byte 0|.a~\
+const ROWS: &str =
+    "|~| \t\r\n~|// \u{ff} \" tensor<~W0-1 W5-7 |a//b\n_c~byte 0|/~W0-9 W10-13 |func.func a$1~byte 0|.a~\
 V0-3 M3-4 |%a->~V0-2 |%0~byte 0|%~byte 0|% a~V0-4 V5-10 W10-11 |%r#0 %r#12x~byte 2|%r#~V0-2 A2-4 |%r#x~byte 3|%r #0~\
 A0-4 S5-7 B8-12 T13-30 |#a.b @f ^bb0 !transform.any_op~byte 0|@0~byte 0|^-~byte 2|a \u{80}~byte 1|a;~\
 H0-13 |tensor<3xi32>~H0-12 M12-13 |vector<8xi1>>~H0-8 |tensor<>~unclosed 15|tensor<3x i32> \"~H0-14 |tensor<3x i32>~\
