@@ -11,6 +11,8 @@ ok|func.func @f() { return } #m = affine_map<(d0) -> (d0)> func.func @g(%a: ~) -
 ok|#m = affine_map<(d0) -> (d0)> module { func.func @f() { return } func.func @g() { return } } #n = affine_map<() -> ()>
 ok|func.func @f(%a: tensor<0x1048576x1048576xi8>, %b: tensor<1x2x3x4x5x6x7x8xi64>, %c: tensor<2048x2048xi1>) { return }
 1:1: byte|?
+1:3: byte|a ; \"
+1:3: unclosed|a \"; ;
 1:34: byte|func.func @f(%a: ~) { /
 1:1: unclosed|tensor<3xi32 {
 1:18: unclosed|func.func @f(%a: tensor<2xi8
@@ -41,6 +43,7 @@ ok|func.func @f() { return } // \" \u{e4} tensor<
 1:18: syntax|func.func @f(%a: vector<2xi8>) { return }
 1:18: syntax|func.func @f(%a: i8) { return }
 1:14: syntax|func.func @f(%a#0: ~) { return }
+1:31: syntax|func.func @f(%a: ~ %b
 1:32: twice|func.func @f(%a: ~, %a: ~) { return }
 1:32: syntax|func.func @f() -> (~) { return }
 1:20: syntax|func.func @f() -> () { return }
@@ -49,6 +52,7 @@ ok|func.func @f() { return } // \" \u{e4} tensor<
 1:63: syntax|func.func @f(%a: ~) { return %a, %a : ~ }
 1:58: syntax|func.func @f(%a: ~) { return %a : ~, ~ }
 1:44: syntax|func.func @f(%a: ~) { return %a }
+1:30: syntax|func.func @f() { return %a : }
 1:67: unknown-name|func.func @f(%a: ~) { return } func.func @g() { return %a : ~ }
 1:48: type-differs|func.func @f(%a: tensor<2x2xi8>) { return %a : tensor<1048577xi8> }
 1:25: unknown-name|func.func @f() { return %q : ~ } more

@@ -33,6 +33,7 @@ const ROWS: &str = "20 affine_map<() -> ()>|affine_map<() -> ()>~\
 53 affine_map<(d0) -> (d0 * 2147483648 - 2147483648)>|affine_map<(d0) -> (d0 * 0002147483648 - 2147483648)>~\
 39 affine_map<(d0, d1) -> (d1)>|affine_map<(a, mod) -> (mod * 2 - mod)>~\
 38 affine_map<(d0, d1) -> (d0 * -3 - d1 + 1)>|affine_map<(a, b) -> (1 - b + a * -3)>~\
+67 affine_map<(d0, d1) -> (-d0 + d1 + 1, d0 * -3 - d1 * 2 - 7, 0, -5)>|affine_map<(d0, d1) -> (-d0 + d1 + 1, d0 * -3 - d1 * 2 - 7, 0, -5)>~\
 text 16|affine_map<(d0) /* */ -> (d0)>~text 0|~form 23|affine_map<(d0) -> (d0 mod 2)>~\
 range 39|affine_map < // all\n(d0) -> (d0 - d0 * 3000000000000000000000000)>";
 
