@@ -38,7 +38,7 @@ fn limits(rt: HostRuntime) -> Result<(), Fail> {
         (
             "operations",
             65_534,
-            "func.func @f() { return }\nfunc.func @g() {\n|%r~ = tensor.empty() : tensor<1xi1>\n|return }",
+            "func.func @f() { return }\nfunc.func @g() {\n|%r~ = tensor.empty() : tensor<1xi1>\n|return %q : tensor<i8> }",
         ),
         (
             "parameters",

@@ -52,7 +52,7 @@ ok|func.func @f() { return } // \" \u{e4} tensor<
 1:63: syntax|func.func @f(%a: ~) { return %a, %a : ~ }
 1:58: syntax|func.func @f(%a: ~) { return %a : ~, ~ }
 1:44: syntax|func.func @f(%a: ~) { return %a }
-1:30: syntax|func.func @f() { return %a : }
+1:46: syntax|func.func @f(%a: ~) { return %a : }
 1:67: unknown-name|func.func @f(%a: ~) { return } func.func @g() { return %a : ~ }
 1:48: type-differs|func.func @f(%a: tensor<2x2xi8>) { return %a : tensor<1048577xi8> }
 1:25: unknown-name|func.func @f() { return %q : ~ } more
