@@ -10,5 +10,3 @@ pub mod number;
 pub mod parse;
 pub mod place;
 pub mod reader;
-#[cfg(test)]
-mod tests;

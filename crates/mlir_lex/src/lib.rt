@@ -12,8 +12,6 @@
 mod fault;
 mod lexed;
 mod read_error;
-#[cfg(test)]
-mod tests;
 
 pub use fault::{Fault, Refused, stop_error};
 pub use lexed::Tokens;

@@ -16,3 +16,4 @@ pub mod Trees
 pub mod States
 pub mod OneState
 pub mod Removed
+pub mod worked

@@ -26,6 +26,3 @@ pub use mlir_verify::Rule;
 pub use place::place_after;
 pub use processing::process;
 pub use refusal::{Fault, Refusal, TextError};
-
-#[cfg(test)]
-mod tests;

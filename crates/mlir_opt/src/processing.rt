@@ -6,8 +6,9 @@ ghost use Rattle.mlir_opt.specs.Steps.{ProcessIs, IsTextError};
 
 use crate::place::place_after;
 use crate::{Fault, TextError};
+use mlir_file::{File, release, release_script};
 use mlir_print::file_text;
-use mlir_read::{File, ReadError, read_file};
+use mlir_read::{ReadError, read_file};
 use mlir_verify::{Refused, verify};
 use std::alloc::Global;
 
@@ -51,14 +52,22 @@ fn verified_text(alloc: Global, file: File) -> Result<Vec<u8>, TextError>
     let File { module, script } = file;
     let checked = match verify(alloc, module) {
         Ok(checked) => checked,
-        Err(Refused::Rule { rule, op }) => return Err(TextError::Verify { rule, op: op.0 }),
-        Err(Refused::Memory) => return Err(TextError::Memory),
+        Err(Refused::Rule { rule, op }) => {
+            release_script(script);
+            return Err(TextError::Verify { rule, op: op.0 });
+        }
+        Err(Refused::Memory) => {
+            release_script(script);
+            return Err(TextError::Memory);
+        }
     };
     let file = File {
         module: checked.into_module(),
         script,
     };
-    match file_text(alloc, &file) {
+    let written = file_text(alloc, &file);
+    release(file);
+    match written {
         Ok(text) => Ok(text.into_vec()),
         Err(_) => Err(TextError::Memory),
     }

@@ -6,7 +6,7 @@ use mlir_verify::Rule;
 use std::fmt;
 
 /// What is wrong in a text at a place.
-#[derive(Clone, Copy, Debug, PartialEq, Eq, Drop)]
+#[derive(Clone, Copy, Drop)]
 pub enum Fault {
     /// A byte that begins no token.
     Byte,
@@ -27,7 +27,7 @@ pub enum Fault {
 }
 
 /// Why there is no output. Its `Display` is the line on `err`, without the line feed.
-#[derive(Clone, Copy, PartialEq, Eq, Drop)]
+#[derive(Clone, Copy, Drop)]
 pub enum Refusal {
     /// The words are no command.
     Words,
@@ -57,7 +57,7 @@ pub enum Refusal {
 }
 
 /// Why a file isn't read.
-#[derive(Clone, Copy, Debug, PartialEq, Eq, Drop)]
+#[derive(Clone, Copy, Drop)]
 pub enum FileError {
     /// It isn't there.
     Absent,
@@ -70,7 +70,7 @@ pub enum FileError {
 }
 
 /// Why a text isn't processed.
-#[derive(Clone, Copy, PartialEq, Eq, Drop)]
+#[derive(Clone, Copy, Drop)]
 pub enum TextError {
     /// As [`Refusal::Limit`].
     Limit {

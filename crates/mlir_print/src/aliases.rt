@@ -139,39 +139,3 @@ pub fn add_maps(aliases: &mut Aliases, maps: &[AffineMap]) -> Result<(), Memory>
     }
     Ok(())
 }
-
-#[cfg(test)]
-mod tests {
-    use super::{Aliases, add_maps, write_uses};
-    use affine_maps::{AffineMap, Expr};
-    use mlir_base::{List, Memory};
-    use std::alloc::Global;
-
-    fn constant_map(alloc: Global, constant: i64) -> Result<AffineMap, Memory> {
-        let mut results = List::new(alloc);
-        results.push(Expr {
-            constant,
-            terms: List::new(alloc),
-        })?;
-        AffineMap::new(0, results).ok_or(Memory)
-    }
-
-    #[test]
-    fn aliases_stand_in_the_order_of_first_use(rt: HostRuntime) -> Result<(), Memory> {
-        let alloc = rt.alloc();
-        let mut maps = List::new(alloc);
-        for constant in [1i64, 2, 1] {
-            maps.push(constant_map(alloc, constant)?)?;
-        }
-        let mut aliases = Aliases::new(alloc);
-        add_maps(&mut aliases, maps.as_slice())?;
-        let mut out = Vec::new(alloc);
-        aliases.write_lines(&mut out)?;
-        write_uses(&mut out, &aliases, maps.as_slice())?;
-        assert_eq!(rt;
-            out.as_slice(),
-            b"#map = affine_map<() -> (1)>\n#map1 = affine_map<() -> (2)>\n#map, #map1, #map".as_slice()
-        );
-        Ok(())
-    }
-}

@@ -19,8 +19,6 @@ mod names;
 mod operations;
 mod payloads;
 mod structured;
-#[cfg(test)]
-mod tests;
 mod text;
 mod types;
 mod values;

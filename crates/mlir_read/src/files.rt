@@ -18,7 +18,7 @@ use std::alloc::Global;
 use text_format::Token;
 
 /// What a text has had so far beside aliases.
-#[derive(Clone, Copy, Debug)]
+#[derive(Clone, Copy)]
 pub enum Stage {
     Start,
     /// A function.

@@ -8,19 +8,9 @@
 //! stands for is `resolve` in specs/Resolve.antt.
 #![tactic(auto)]
 
-#[cfg(test)]
-mod constant_tests;
 mod files;
 mod functions;
-#[cfg(test)]
-mod map_tests;
-#[cfg(test)]
-mod payload_tests;
 mod read;
-#[cfg(test)]
-mod script_tests;
-#[cfg(test)]
-mod tests;
 
 pub use files::{FileScope, Stage, resolve_text};
 pub use mlir_file::File;

@@ -12,7 +12,7 @@ ghost use Rattle.mlir_read.specs.Reading.{item_stage, stage_behind, behind, want
 use crate::files::{Stage, function_stage, is_closed, module_stage, resolve_text};
 use mlir_file::File;
 use mlir_lex::{LexError, ReadError, Refused, Token, stop_error, tokens};
-use mlir_syntax::{Enclosed, Item, ModuleRest, Text, read_tree};
+use mlir_syntax::{Enclosed, Item, ModuleRest, Text, read_tree, release};
 use std::alloc::Global;
 use text_format::{Class, Parser, Reason, Stopped};
 
@@ -147,7 +147,9 @@ fn read_tokens(alloc: Global, text: &[u8], list: &[Token]) -> Result<File, ReadE
         Err(_) => return Err(ReadError::Memory),
     };
     let stop = told(&tree, parser.end(behind(&tree)));
-    read_stopped(alloc, &tree, stop)
+    let read = read_stopped(alloc, &tree, stop);
+    release(tree);
+    read
 }
 
 /// The file of a text, or its first fault.

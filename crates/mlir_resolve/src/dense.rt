@@ -16,7 +16,7 @@ use std::alloc::Global;
 use text_format::Token;
 
 /// What a token of a dense literal is.
-#[derive(Clone, Copy, Debug)]
+#[derive(Clone, Copy)]
 pub enum Mark {
     Open,
     Close,
@@ -27,7 +27,7 @@ pub enum Mark {
 }
 
 /// What may come next in a dense literal.
-#[derive(Clone, Copy, Debug)]
+#[derive(Clone, Copy)]
 pub enum Wanted {
     /// The whole literal, or nothing.
     Whole,

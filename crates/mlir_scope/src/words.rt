@@ -6,7 +6,7 @@ ghost use Rattle.mlir_scope.specs.Words.{first_named, binary_text, predicate_tex
 use payload_ops::{BinOp, Predicate};
 
 /// A change of an integer's width (MLIR Arith dialect, "arith.extsi", "arith.extui" and "arith.trunci").
-#[derive(Clone, Copy, Debug, PartialEq, Eq)]
+#[derive(Clone, Copy)]
 pub enum Cast {
     SignExtend,
     ZeroExtend,

@@ -18,7 +18,4 @@ pub use tree::{
     ScriptModule, SelectStep, SeveralResults, Sign, SignedNumber, SourceAndOutput, Statement, Step,
     StepOperation, Text, Transpose, TypedNumber, WrittenMap,
 };
-pub use whole::read_tree;
-
-#[cfg(test)]
-mod tests;
+pub use whole::{read_tree, release};

@@ -16,3 +16,6 @@ pub fn read_tree<'a>(alloc: Global, parser: &mut Parser<'a>) -> Result<Text<'a>,
     let items = many::<Item>(alloc, parser, Class::ItemStart)?;
     Ok(Text { items })
 }
+
+/// Lets a tree go. A crate above that calls it needs no proof of how the types of a tree are dropped.
+pub fn release(_tree: Text) {}

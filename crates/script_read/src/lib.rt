@@ -16,8 +16,6 @@ mod names;
 mod numbers;
 mod read;
 mod script;
-#[cfg(test)]
-mod tests;
 
 pub use lines::resolve_script;
 pub use read::read_script;

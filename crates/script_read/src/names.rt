@@ -10,7 +10,7 @@ use std::collections::HashMap;
 use std::marker::Model;
 
 /// What a name in scope stands for: handles are numbered in the order of their definitions.
-#[derive(Clone, Copy, Debug)]
+#[derive(Clone, Copy)]
 pub enum Meaning {
     /// The handle of this number.
     One(u32),

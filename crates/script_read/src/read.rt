@@ -11,7 +11,7 @@ ghost use Rattle.script_read.specs.Reading.{reading, StandsFor, Gives, Tells};
 use crate::lines::resolve_script;
 use crate::script::Script;
 use mlir_lex::{ReadError, Refused, Tokens, stop_error};
-use script_syntax::Sequence;
+use script_syntax::{Sequence, release};
 use std::alloc::Global;
 use text_format::{Node, Parser, Stopped};
 
@@ -51,11 +51,12 @@ fn read_front(alloc: Global, t: &Tokens<'_>, first: u32) -> Result<(Script, u32)
         Ok(tree) => tree,
         Err(_) => return Err(ReadError::Memory),
     };
-    let script = match read_stopped(alloc, &tree, parser.stopped()) {
-        Ok(script) => script,
-        Err(error) => return Err(error),
-    };
-    Ok((script, (spans.len() - parser.left()) as u32))
+    let read = read_stopped(alloc, &tree, parser.stopped());
+    release(tree);
+    match read {
+        Ok(script) => Ok((script, (spans.len() - parser.left()) as u32)),
+        Err(error) => Err(error),
+    }
 }
 
 /// The named sequence that begins at the token of this number, and the number of the token behind it. Its handles are

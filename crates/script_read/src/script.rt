@@ -3,7 +3,7 @@
 use mlir_base::{List, Name, Width};
 
 /// A handle, by its number.
-#[derive(Clone, Copy, Debug, PartialEq, Eq)]
+#[derive(Clone, Copy, PartialEq, Eq)]
 pub struct HandleId(pub u32);
 
 /// A named sequence: steps over handles, of which the root names the module (Transform dialect, "transform.named_sequence").

@@ -9,10 +9,9 @@
 #![tactic(auto)]
 
 mod read;
-#[cfg(test)]
-mod tests;
 mod tree;
 
+pub use read::release;
 pub use tree::{
     BehindFirst, BehindSecond, BehindThird, Further, FuseStep, Group, GroupStep, GroupTypes,
     HandleStep, Line, ManyResults, MatchStep, MoreTypes, Multiples, NamedStep, NextResult,

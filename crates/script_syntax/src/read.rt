@@ -5,3 +5,5 @@ mod literals;
 mod results;
 mod steps;
 mod types;
+
+pub use lines::release;

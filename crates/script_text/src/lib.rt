@@ -13,8 +13,6 @@
 
 mod bodies;
 mod names;
-#[cfg(test)]
-mod tests;
 mod text;
 
 pub use script_read::{HandleId, PadArgs, Script, Step, StepKind, read_script, resolve_script};

@@ -10,7 +10,7 @@ use std::collections::HashMap;
 use std::marker::Model;
 
 /// The name of a handle.
-#[derive(Clone, Copy, Debug, PartialEq, Eq)]
+#[derive(Clone, Copy)]
 pub enum Given {
     /// `%arg0`
     Root,
@@ -21,7 +21,7 @@ pub enum Given {
 }
 
 /// A handle that was defined.
-#[derive(Clone, Copy, Debug)]
+#[derive(Clone, Copy)]
 pub struct Row {
     pub handle: u32,
     pub name: Given,

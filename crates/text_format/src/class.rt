@@ -13,7 +13,7 @@ use crate::words::{
 };
 
 /// Where an operation's name is wanted, which says what is refused there as not supported.
-#[derive(Clone, Copy, Debug)]
+#[derive(Clone, Copy)]
 pub enum Position {
     /// Where a function or a module may stand.
     Item,
@@ -32,7 +32,7 @@ pub enum Position {
 }
 
 /// The sets of tokens that a production leaves open. A leaf of a tree is a token of one of them.
-#[derive(Clone, Copy, Debug)]
+#[derive(Clone, Copy)]
 pub enum Class {
     /// A fixed token whose place is kept.
     Exactly(Lexeme),
@@ -81,7 +81,7 @@ pub enum Class {
 }
 
 /// Why reading stops at a token.
-#[derive(Clone, Copy, Debug, PartialEq, Eq)]
+#[derive(Clone, Copy)]
 pub enum Reason {
     Unsupported,
     Syntax,

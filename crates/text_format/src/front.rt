@@ -4,7 +4,7 @@ ghost use Rattle.std.specs.Prelude.{◌≡◌, ◌+◌, ◌<◌, ◌≤◌, ◌^
 ghost use Rattle.text_format.specs.Bytes.{is_blank, is_digit, is_letter, is_word_byte, belongs, run, is_mark, is_sign, sign_kind, next_is, letter_next, is_closed, is_shape_start, shaped_front, word_front, result_number, value_front, sign_front, quoted_front, mark_front, comment_front, front, first_front, Within};
 
 /// The kinds of tokens, as the Language Reference has them.
-#[derive(Clone, Copy, Debug, PartialEq, Eq)]
+#[derive(Clone, Copy)]
 pub enum Kind {
     /// A letter or `_`, then letters, digits, `_`, `$` and `.`.
     Word,
@@ -29,7 +29,7 @@ pub enum Kind {
 }
 
 /// Sets of bytes.
-#[derive(Clone, Copy, Debug)]
+#[derive(Clone, Copy)]
 pub enum ByteClass {
     WordByte,
     ValueByte,
@@ -40,7 +40,7 @@ pub enum ByteClass {
 }
 
 /// What stands first in a text.
-#[derive(Clone, Copy, Debug)]
+#[derive(Clone, Copy)]
 pub enum Front {
     /// A blank or a comment of so many bytes.
     Skip(usize),

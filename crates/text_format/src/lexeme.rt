@@ -4,7 +4,7 @@ ghost use Rattle.text_format.specs.Lexemes.{lexeme_kind, lexeme_text};
 use crate::front::Kind;
 
 /// A token that a production fixes: a mark, a keyword, or an operation's name.
-#[derive(Clone, Copy, Debug)]
+#[derive(Clone, Copy)]
 pub enum Lexeme {
     OpenParenthesis,
     CloseParenthesis,

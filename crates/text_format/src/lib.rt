@@ -33,8 +33,3 @@ pub use token::Token;
 pub use types::{
     Extent, RankedShape, element_of, has_other_element, is_ranked, ranked_of, width_of,
 };
-
-#[cfg(test)]
-mod format_tests;
-#[cfg(test)]
-mod tests;

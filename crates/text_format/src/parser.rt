@@ -12,7 +12,7 @@ use crate::token::Token;
 use std::marker::Model;
 
 /// Where reading stopped, as the number of bytes before it, and why.
-#[derive(Clone, Copy, Debug)]
+#[derive(Clone, Copy)]
 pub struct Stopped {
     pub at: u32,
     pub why: Reason,

@@ -8,7 +8,7 @@ use crate::token::Token;
 use std::alloc::{AllocError, AllocFailed, Global};
 
 /// A token of a text, by its places: its bytes are those from `start` up to `end`, which isn't one of them.
-#[derive(Clone, Copy, Debug)]
+#[derive(Clone, Copy)]
 pub struct Span {
     pub kind: Kind,
     pub start: u32,
@@ -30,7 +30,7 @@ impl Span {
 }
 
 /// Why a text has no tokens.
-#[derive(Debug, Drop)]
+#[derive(Drop)]
 pub enum LexError {
     /// At this place a byte outside a comment begins no token, or can't stand in a quoted text.
     Byte(u32),

@@ -11,7 +11,7 @@ use mlir_base::{ElemTy, List, Memory, Width};
 use std::alloc::Global;
 
 /// An extent that a text writes.
-#[derive(Clone, Copy, Debug, PartialEq, Eq)]
+#[derive(Clone, Copy, PartialEq, Eq)]
 pub enum Extent {
     /// One up to 1,048,576.
     Fixed(u32),
@@ -27,7 +27,7 @@ pub struct RankedShape {
 }
 
 /// Where a reader stands in a shaped type's list of extents.
-#[derive(Clone, Copy, Debug)]
+#[derive(Clone, Copy)]
 enum Part {
     /// Before an extent, or the element type.
     Start,
@@ -38,7 +38,7 @@ enum Part {
 }
 
 /// What a byte in a shaped type does to a reader.
-#[derive(Clone, Copy, Debug)]
+#[derive(Clone, Copy)]
 enum Step {
     Goes(Part),
     /// The element type begins here.

@@ -4,7 +4,7 @@ use mlir_base::Memory as OutOfMemory;
 
 /// Why no map stands at the front of a text. Each fault has the place of the byte with which its
 /// token begins.
-#[derive(Clone, Copy, Debug, PartialEq, Eq)]
+#[derive(Clone, Copy)]
 pub enum MapError {
     /// No map's text goes on with this token.
     BadText(u32),
@@ -27,7 +27,7 @@ impl From<OutOfMemory> for MapError {
 }
 
 /// Why two forms have no product.
-#[derive(Clone, Copy, Debug, PartialEq, Eq)]
+#[derive(Clone, Copy)]
 pub enum NoProduct {
     /// Both have a term.
     Form,

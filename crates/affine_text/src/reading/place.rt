@@ -9,7 +9,7 @@ ghost use Rattle.affine_text.specs.Faults.{is_division};
 use text_format::{Kind, Token};
 
 /// What a token is to a map's text.
-#[derive(Clone, Copy, Debug)]
+#[derive(Clone, Copy)]
 pub enum Sign {
     Word,
     Number,
@@ -28,7 +28,7 @@ pub enum Sign {
 }
 
 /// What a map's text goes on with.
-#[derive(Clone, Copy, Debug)]
+#[derive(Clone, Copy)]
 pub enum Place {
     /// `affine_map`.
     Keyword,
@@ -67,7 +67,7 @@ pub enum Place {
 }
 
 /// What a token does to a reader.
-#[derive(Clone, Copy, Debug)]
+#[derive(Clone, Copy)]
 pub enum Step {
     /// A word that must be `affine_map`.
     Keyword,

@@ -70,3 +70,6 @@ impl<'a> Node<'a> for Sequence<'a> {
         })
     }
 }
+
+/// Lets a script's tree go. A crate above that calls it needs no proof of how the types of a tree are dropped.
+pub fn release(_script: Sequence) {}

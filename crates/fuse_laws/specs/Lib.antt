@@ -1,0 +1,5 @@
+pub mod Moved
+pub mod Joined
+pub mod Captured
+pub mod Fused
+pub mod Laws

@@ -1,0 +1,9 @@
+pub mod Transfers
+pub mod LanePicks
+pub mod LaneSteps
+pub mod LaneLaw
+pub mod LaneReductions
+pub mod Parallel
+pub mod Operations
+pub mod Stated
+pub mod ExampleRowSums

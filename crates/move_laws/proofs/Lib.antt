@@ -1,0 +1,12 @@
+pub mod Padded
+pub mod PadLaw
+pub mod Merged
+pub mod PackedAxes
+pub mod PackedOperands
+pub mod PackedPoints
+pub mod PointFree
+pub mod PackLaw
+pub mod Moves
+pub mod Operations
+pub mod Stated
+pub mod ExampleRowSums

@@ -1,0 +1,4 @@
+pub mod Operands
+pub mod Pads
+pub mod Packs
+pub mod Laws

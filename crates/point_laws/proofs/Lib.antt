@@ -1,0 +1,13 @@
+pub mod Lists
+pub mod Tables
+pub mod Members
+pub mod Sorted
+pub mod Folds
+pub mod Groups
+pub mod Windows
+pub mod Ragged
+pub mod Cuts
+pub mod Combiners
+pub mod Inside
+pub mod Turning
+pub mod Stated

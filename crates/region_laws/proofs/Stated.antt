@@ -1,0 +1,37 @@
+-- The laws that speak of an instance of a generic.
+use Rattle.std.proofs.Common.{⊎_elim}
+use Rattle.region_laws.specs.Laws.{TypedByAxes, TiledGenericIsTile, BodyDoesTile, BodyOfWholeOutput, BodyNotesTile, TileForMeansGeneric, TileForallMeansGeneric}
+use Rattle.region_laws.proofs.Extents.{typed_by}
+use Rattle.region_laws.proofs.Inner.{inner_is}
+use Rattle.region_laws.proofs.TileLoops.{tile_for_parallel, tile_for_combiner, tile_forall}
+use Rattle.region_laws.proofs.Tilings.{sliced_body, whole_body, noted_body}
+
+pub typed_instance : TypedByAxes
+typed_instance g f = typed_by g.box g.maps g.ds g.ins g.width g.out f
+
+pub tiled_generic : TiledGenericIsTile
+tiled_generic g typed cut os ns c captured payload moves s = inner_is g.box g.maps g.ds g.ins g.width g.captured g.payload cut os ns c captured payload moves g.out s typed
+
+pub does_tile : BodyDoesTile
+does_tile g ts q M t b d arg x c o n new =
+    sliced_body g.box ts g.maps g.ds g.ins g.width g.captured g.payload g.out d.typed b.iterators d.rank q d.within M t b.inputs b.names b.captured b.payload d.body b.kind d.means
+    arg x c n.id n.insertion n.end n.result n.inserted n.ty n.inserted_ty o.known o.holds o.slice new
+
+pub does_whole : BodyOfWholeOutput
+does_whole g ts q M t b d arg x known holds extents n =
+    whole_body g.box ts g.maps g.ds g.ins g.width g.captured g.payload g.out d.typed b.iterators d.rank q d.within M t b.inputs b.names b.captured b.payload d.body b.kind d.means
+    arg x n.id n.end n.result n.ty known holds extents
+
+pub notes_one : BodyNotesTile
+notes_one g ts q M t b d arg x c o n new =
+    noted_body g.box ts g.maps g.ds g.ins g.width g.captured g.payload g.out d.typed b.iterators d.rank q d.within M t b.inputs b.names b.captured b.payload d.body b.kind d.means
+    arg x c n.id n.insertion n.result n.ty o.known o.holds o.slice new
+
+pub tile_for : TileForMeansGeneric
+tile_for g ts typed full one adds N u lower ty l ls current inner n ways =
+    ⊎_elim (tile_for_parallel g.box ts g.maps g.ds g.ins g.width g.captured g.payload g.out typed full one adds lower ty inner current l ls N u n)
+    (tile_for_combiner g.box ts g.maps g.ds g.ins g.width g.captured g.payload g.out typed full one adds lower ty inner current l ls N u n) ways
+
+pub tile_forall_is : TileForallMeansGeneric
+tile_forall_is g ts typed full cuts u vs lower upper stride arg outs ty inner rs =
+    tile_forall g.box ts g.maps g.ds g.ins g.width g.captured g.payload g.out typed full vs lower upper stride arg outs ty inner rs u cuts

@@ -1,0 +1,124 @@
+-- The innermost body of a tiled generic, whole: slices, the tiled operation, and what becomes of its result.
+use Rattle.std.proofs.Common.{◌≡◌, ℕ, Bool, true, false, List, [], ◌∷◌, ◌++◌, length, Option, refl, ap, ◌∙◌}
+use Rattle.std.specs.Prelude.{option_map}
+use Rattle.affine_maps.specs.Shape.{MapShape}
+use Rattle.payload_ops.specs.Shape.{PayloadShape}
+use Rattle.mlir_ir.specs.declared.tree.Op.{Op}
+use Rattle.mlir_ir.specs.declared.tree.OpId.{OpId}
+use Rattle.mlir_ir.specs.declared.tree.OpKind.{OpKind, InsertSlice, ParallelInsert}
+use Rattle.mlir_ir.specs.declared.tree.Iter.{Iter}
+use Rattle.mlir_ir.specs.declared.tree.Ty.{Ty}
+use Rattle.mlir_ir.specs.declared.tree.ValueId.{ValueId}
+use Rattle.mlir_meaning.specs.Grids.{settled, InBox}
+use Rattle.mlir_meaning.specs.Loops.{insertions_of}
+use Rattle.mlir_meaning.specs.Meaning.{kind_meaning, run, values_in}
+use Rattle.mlir_meaning.specs.Moves.{slice_of}
+use Rattle.mlir_meaning.specs.States.{State, made}
+use Rattle.mlir_meaning.specs.Structured.{generic_result, generic_element, generic_step}
+use Rattle.mlir_meaning.specs.declared.values.Grid.{Grid}
+use Rattle.mlir_meaning.specs.declared.values.Datum.{Datum}
+use Rattle.mlir_meaning.specs.declared.values.Datum.TheVariants.{Cells}
+use Rattle.point_laws.specs.Tiles.{tile_box, tile_offsets, tile_sizes, is_cut}
+use Rattle.region_laws.specs.Regions.{moved}
+use Rattle.region_laws.specs.Operands.{inner_maps, operand_tiles, maps_of, IsTyped}
+use Rattle.point_laws.specs.Boxes.{picks}
+use Rattle.region_laws.specs.Nests.{Knows, ended, noted, yield_of}
+use Rattle.region_laws.specs.Bodies.{Builds, after, Slice, slice_op, slice_ops, slice_names, IsBody, IsOutputSlice, MeansTiled}
+use Rattle.region_laws.specs.TileLoops.{sliced_tile, whole_tile, started_tile}
+use Rattle.point_laws.proofs.Cuts.{tile_cut}
+use Rattle.region_laws.proofs.Inner.{inner_is}
+use Rattle.region_laws.proofs.Leaves.{inserts_tile, yields_tile, notes_tile}
+use Rattle.region_laws.proofs.Building.{BuildsTiles, builds_tiles, builds_slice}
+use Rattle.mlir_meaning.proofs.States.{set_same, set_other, apart, generic_runs, values_kept}
+
+module _ (box ts : List ℕ) (ms : List MapShape) (ds : List ℕ) (ins : List Datum) (width : ℕ) (captured : List ℕ) (payload : PayloadShape) (g : Grid) (typed : IsTyped box ms ds ins width g)
+    (iterators : List Iter) (rank : length iterators ≡ length box) (q : List ℕ) (inside : InBox (tile_box box ts) q)
+    (M : ℕ → Bool) (t : State) (fs : List (ValueId × Option Slice)) (names : List ValueId) (captured' : List ℕ) (payload' : PayloadShape)
+    (b : IsBody M t box ts ms ins captured payload q fs names captured' payload')
+    (kind : ValueId → OpKind) (means : MeansTiled box ts ms ds ins width iterators q fs names payload' kind) where
+  abbrev step : ℕ → List ℕ → Option ℕ
+  step = generic_step (maps_of ms box ds) ins captured payload
+
+  abbrev os : List ℕ
+  os = tile_offsets box ts q
+
+  abbrev ns : List ℕ
+  ns = tile_sizes box ts q
+
+  built : BuildsTiles M t (operand_tiles (is_cut ts) os ns ms ins) fs
+  built = builds_tiles M t (is_cut ts) os ns M ms ins fs (λ w h. h) b.slices t (λ v h. refl)
+
+  -- the tiled generic makes the tile
+  makes_tile : (u : State) (rs : List (ValueId × Ty)) (o : ValueId) (x : Grid) → values_in u.values (slice_names fs) ≡ operand_tiles (is_cut ts) os ns ms ins → Knows M t u →
+      u.values o.0 ≡ Cells width x → x.extents ≡ picks ds ns →
+      kind_meaning (kind o) rs u ≡ made rs u (option_map (Cells width) (settled x.extents (generic_element (picks ds) (moved step os) ns x)))
+  makes_tile u rs o x tiled knows at_out shape =
+      means u rs o x tiled at_out shape
+      ∙ generic_runs u rs _ iterators (slice_names fs) o names payload' (operand_tiles (is_cut ts) os ns ms ins) (Cells width x) captured' tiled at_out (b.captures u knows)
+      ∙ ap (made rs u)
+      ((λ j. generic_result (maps_of (inner_maps (is_cut ts) ms) box ds) (rank j) (operand_tiles (is_cut ts) os ns ms ins) (Cells width x) captured' payload')
+      ∙ inner_is box ms ds ins width captured payload (is_cut ts) os ns (tile_cut box ts q inside) captured' payload' b.moves g x typed shape)
+
+  -- behind the output's slice
+  record Sliced (arg : ValueId) (x : Grid) (c : Slice) : Type 0 where
+    state : State
+    runs : (rest : List Op) → run (slice_ops fs ++ (slice_op arg c ∷ rest)) t ≡ run rest state
+    knows : Knows M t state
+    tiled : values_in state.values (slice_names fs) ≡ operand_tiles (is_cut ts) os ns ms ins
+    at_out : state.values c.result.0 ≡ Cells width (slice_of x (picks ds os) (picks ds ns))
+    shared : state.shared ≡ t.shared
+    inserts : state.inserts ≡ t.inserts
+
+  sliced : (arg : ValueId) (x : Grid) (c : Slice) → M arg.0 ≡ true → t.values arg.0 ≡ Cells width x → IsOutputSlice M t box ts ds q fs c → Sliced arg x c
+  sliced arg x c there at_arg o =
+      let r : BuildsTiles M t (operand_tiles (is_cut ts) os ns ms ins) fs = built in
+      let d : Datum = Cells width (slice_of x (picks ds os) (picks ds ns)) in
+      let last : Builds M r.state (slice_op arg c ∷ []) (after r.state c.result d) =
+      builds_slice M r.state arg c width x (picks ds os) (picks ds ns) o.new (r.builds.knows arg.0 there ∙ at_arg) (o.offsets r.state r.builds.knows) (o.sizes r.state r.builds.knows) in
+      record {
+        state = after r.state c.result d;
+        runs = λ rest. r.builds.runs (slice_op arg c ∷ rest) ∙ last.runs rest;
+        knows = λ v h. last.knows v h ∙ r.builds.knows v h;
+        tiled = values_kept r.state.values c.result.0 d (slice_names fs) o.other ∙ r.tiled;
+        at_out = set_same r.state.values c.result.0 d;
+        shared = r.builds.shared;
+        inserts = r.builds.inserts;
+      }
+
+  knows_after : (u : State) → Knows M t u → (v : ValueId) (d : Datum) → M v.0 ≡ false → Knows M t (after u v d)
+  knows_after u k v d new w h = set_other u.values v.0 w d (apart M v.0 w new h) ∙ k w h
+
+  -- THE BODY OF A `scf.for`, where the output is sliced
+  pub sliced_body : (arg : ValueId) (x : Grid) (c : Slice) (id id' id'' : OpId) (r z : ValueId) (tr tz : Ty) → M arg.0 ≡ true → t.values arg.0 ≡ Cells width x → IsOutputSlice M t box ts ds q fs c → M r.0 ≡ false →
+      run (slice_ops fs ++ (slice_op arg c ∷ record { id = id; results = (r, tr) ∷ []; kind = kind c.result }
+      ∷ record { id = id'; results = (z, tz) ∷ []; kind = InsertSlice r arg c.offsets c.sizes } ∷ yield_of id'' z ∷ [])) t ≡ ended (Cells width) (sliced_tile step box ts ds q x)
+  unfolding slice_of
+  sliced_body arg x c id id' id'' r z tr tz there at_arg o new =
+      let s : Sliced arg x c = sliced arg x c there at_arg o in
+      s.runs _
+      ∙ inserts_tile s.state width (started_tile step box ts ds x q) id (kind c.result) r tr
+      (makes_tile s.state ((r, tr) ∷ []) c.result (slice_of x (picks ds os) (picks ds ns)) s.tiled s.knows s.at_out refl)
+      x id' id'' z arg tz c.offsets c.sizes (picks ds os) (s.knows arg.0 there ∙ at_arg) (apart M r.0 arg.0 new there)
+      (λ d. o.offsets (after s.state r d) (knows_after s.state s.knows r d new))
+
+  -- where it isn't
+  pub whole_body : (arg : ValueId) (x : Grid) (id id' : OpId) (r : ValueId) (tr : Ty) → M arg.0 ≡ true → t.values arg.0 ≡ Cells width x → x.extents ≡ picks ds ns →
+      run (slice_ops fs ++ (record { id = id; results = (r, tr) ∷ []; kind = kind arg } ∷ yield_of id' r ∷ [])) t ≡ ended (Cells width) (whole_tile step box ts ds q x)
+  whole_body arg x id id' r tr there at_arg shape =
+      let w : BuildsTiles M t (operand_tiles (is_cut ts) os ns ms ins) fs = built in
+      w.builds.runs _
+      ∙ yields_tile w.state width (whole_tile step box ts ds q x) id (kind arg) r tr
+      (makes_tile w.state ((r, tr) ∷ []) arg x w.tiled w.builds.knows (w.builds.knows arg.0 there ∙ at_arg) shape) id'
+
+  -- THE BODY OF A `scf.forall`
+  pub noted_body : (arg : ValueId) (x : Grid) (c : Slice) (id id' : OpId) (r : ValueId) (tr : Ty) → M arg.0 ≡ true → t.values arg.0 ≡ Cells width x → IsOutputSlice M t box ts ds q fs c → M r.0 ≡ false →
+      t.shared ≡ arg ∷ [] → t.inserts ≡ [] →
+      insertions_of (run (slice_ops fs ++ (slice_op arg c ∷ record { id = id; results = (r, tr) ∷ []; kind = kind c.result }
+      ∷ record { id = id'; results = []; kind = ParallelInsert r arg c.offsets c.sizes } ∷ [])) t) ≡ noted (picks ds os) (started_tile step box ts ds x q)
+  unfolding slice_of
+  noted_body arg x c id id' r tr there at_arg o new shares none =
+      let s : Sliced arg x c = sliced arg x c there at_arg o in
+      ap insertions_of (s.runs _)
+      ∙ notes_tile s.state width (started_tile step box ts ds x q) id (kind c.result) r tr
+      (makes_tile s.state ((r, tr) ∷ []) c.result (slice_of x (picks ds os) (picks ds ns)) s.tiled s.knows s.at_out refl)
+      id' arg c.offsets c.sizes (picks ds os) (s.shared ∙ shares) (s.inserts ∙ none) (λ d. o.offsets (after s.state r d) (knows_after s.state s.knows r d new))

@@ -1,0 +1,15 @@
+use Rattle.region_laws.proofs.Foralls.{begins}
+use Rattle.region_laws.proofs.Stated.{does_tile, does_whole, notes_one}
+use Rattle.region_laws.proofs.laws.bodies_do_one_tile.Goals as goal
+
+pub returns-clause-nest : goal.returns-clause-nest
+returns-clause-nest c = does_tile
+
+pub returns-clause-whole : goal.returns-clause-whole
+returns-clause-whole c = does_whole
+
+pub returns-clause-at_once : goal.returns-clause-at_once
+returns-clause-at_once c = notes_one
+
+pub returns-clause-begins : goal.returns-clause-begins
+returns-clause-begins c = begins

@@ -1,0 +1,185 @@
+-- The laws. Each is the contract of a function in `src/laws.rt`.
+use Rattle.std.specs.Prelude.{◌≡◌, ℕ, ◌<◌, Bool, false, List, [], ◌∷◌, map, length, Option, Some, option_map, slice_index, ◌⊎◌, true, replicate}
+use Rattle.affine_maps.specs.Map.{dimension}
+use Rattle.affine_maps.specs.Shape.{MapShape}
+use Rattle.payload_ops.specs.Shape.{PayloadShape}
+use Rattle.payload_ops.specs.Values.{arg_bits}
+use Rattle.payload_ops.specs.declared.step.Arg.{Arg}
+use Rattle.payload_ops.specs.declared.step.PayloadStep.{PayloadStep}
+use Rattle.mlir_ir.specs.declared.tree.Idx.{Idx}
+use Rattle.mlir_ir.specs.declared.tree.Op.{Op}
+use Rattle.mlir_ir.specs.declared.tree.OpKind.{Forall, OpKind, Matmul, BatchMatmul, Fill, Transpose, Broadcast}
+use Rattle.mlir_ir.specs.declared.tree.Ty.{Ty}
+use Rattle.mlir_ir.specs.declared.tree.ValueId.{ValueId}
+use Rattle.mlir_meaning.specs.Grids.{settled, Fits, IsFull, Each, count_up}
+use Rattle.mlir_meaning.specs.Loops.{ForallHead, forall_state, insertions_of}
+use Rattle.mlir_meaning.specs.Meaning.{kind_meaning, run}
+use Rattle.mlir_meaning.specs.Moves.{slice_of}
+use Rattle.mlir_meaning.specs.States.{State, made, width_of}
+use Rattle.mlir_meaning.specs.Structured.{generic_box, generic_element, generic_result, multiply_add, copying}
+use Rattle.mlir_meaning.specs.declared.values.Datum.{Datum}
+use Rattle.mlir_meaning.specs.declared.values.Datum.TheVariants.{Cells}
+use Rattle.mlir_meaning.specs.declared.values.Grid.{Grid}
+use Rattle.point_laws.specs.Boxes.{picks}
+use Rattle.point_laws.specs.Folds.{Combines}
+use Rattle.point_laws.specs.Tiles.{Cut, is_cut, cut_dims, tile_offsets, tile_sizes}
+use Rattle.region_laws.specs.Bodies.{Slice, TileBody, DoesTile, IsOutputOf, Names, sliced_body, noting_body, whole_body, slice_names, MeansTiled}
+use Rattle.region_laws.specs.Instances.{Instance, step_of, result_of, IsTypedInstance, FitsItsBox}
+use Rattle.region_laws.specs.Nests.{Level, TileLoop, AreNewVars, Begins, with_value, ended, noted}
+use Rattle.region_laws.specs.Operands.{CutsOutput, HasBox, IsMoved, IsRead, IsTile, inner_map, inner_maps, is_sliced, maps_of, operand_tile, operand_tiles}
+use Rattle.region_laws.specs.Regions.{AddsRegions, moved, tile}
+use Rattle.region_laws.specs.Shifts.{Earlier, Shifts, Stays, arg_to}
+use Rattle.region_laws.specs.TileLoops.{IsNest, NotesTiles, nest_op, sliced_tile, started_tile, whole_tile}
+use Rattle.mlir_ir.specs.declared.tree.Iter.TheVariants.{Parallel, Reduction}
+use Rattle.mlir_meaning.specs.Points.{select_map, place_of, kept}
+
+-- OPERANDS
+-- what is asked of a generic follows from what is known of each axis
+abbrev pub TypedByAxes : Type 0
+TypedByAxes = (g : Instance) → FitsItsBox g → IsTypedInstance g
+
+-- what the tile of an operand has at a point, the operand has at the point moved
+abbrev pub OperandsHaveTiles : Type 0
+OperandsHaveTiles = (cut : ℕ → Bool) (box os ns : List ℕ) → Cut cut box os ns → (m : MapShape) (x : Datum) →
+    IsRead box m x →
+    IsTile os ns m x (inner_map cut m) (operand_tile cut os ns m x)
+
+-- the box of the generic on the tiles is the tile
+abbrev pub TilesHaveBox : Type 0
+TilesHaveBox = (cut : ℕ → Bool) (box os ns : List ℕ) → Cut cut box os ns →
+    (maps : List MapShape) (operands : List Datum) → HasBox box maps operands →
+    generic_box (inner_maps cut maps) (length box) (operand_tiles cut os ns maps operands) ≡ ns
+
+-- the generic on the operands' tiles is the fold over the region, from the tile s of the output
+abbrev pub TiledGenericIsTile : Type 0
+TiledGenericIsTile = (g : Instance) → IsTypedInstance g → (cut : ℕ → Bool) (os ns : List ℕ) → Cut cut g.box os ns →
+    (captured : List ℕ) (payload : PayloadShape) → IsMoved os ns g.payload g.captured payload captured → (s : Grid) →
+    s.extents ≡ picks g.ds ns →
+    generic_result (maps_of (inner_maps cut g.maps) g.box g.ds) (length g.box) (operand_tiles cut os ns g.maps g.ins)
+    (Cells g.width s) captured payload
+    ≡ option_map (Cells g.width) (settled s.extents (generic_element (picks g.ds) (moved (step_of g) os) ns s))
+
+-- a tile of which the output is sliced adds its region's points, and one of which it isn't
+abbrev pub TilesAddRegions : Type 0
+TilesAddRegions = (step : ℕ → List ℕ → Option ℕ) (box ts ds : List ℕ) → Each (λ d. d < length box) ds →
+    ((es : List ℕ) → es ≡ picks ds box → AddsRegions (picks ds) step box es ts (sliced_tile step box ts ds))
+    × ((es : List ℕ) → is_sliced (is_cut ts) (map dimension ds) ≡ false →
+    AddsRegions (picks ds) step box es ts (whole_tile step box ts ds))
+
+-- where only the output's dimensions are cut, a slice of the whole is the tile; the whole is there where nothing traps
+abbrev pub SliceOfWholeIsTile : Type 0
+SliceOfWholeIsTile = (step : ℕ → List ℕ → Option ℕ) (cut : ℕ → Bool) (box os ns : List ℕ) → Cut cut box os ns →
+    (ds : List ℕ) → Each (λ d. d < length box) ds → CutsOutput cut box ds → (cells results : List ℕ) →
+    let grid : List ℕ → Grid = λ cs. record { extents = picks ds box; cells = cs } in
+    settled (picks ds box) (generic_element (picks ds) step box (grid cells)) ≡ Some (grid results) →
+    tile (picks ds) step os ns (picks ds os) (picks ds ns) (grid cells)
+    ≡ Some (slice_of (grid results) (picks ds os) (picks ds ns))
+
+-- PAYLOADS
+-- the tile's payload, where `linalg.index` is moved by the offsets
+abbrev pub IndicesMove : Type 0
+IndicesMove = (payload payload' : PayloadShape) (box os ns outer outer' : List ℕ) (r c : ℕ → ℕ) → Fits box os ns →
+    ((a : Arg) → arg_bits payload' (arg_to r c a) ≡ arg_bits payload a) →
+    ((k : ℕ) → slice_index outer' (c k) ≡ slice_index outer k) →
+    Shifts os outer' r c [] 0 0 payload.steps payload'.steps → Earlier (length payload.steps) payload.yielded →
+    payload'.yielded ≡ arg_to r c payload.yielded →
+    IsMoved os ns payload outer payload' outer'
+
+-- a payload that names no dimension with an offset stays as it is
+abbrev pub OthersStay : Type 0
+OthersStay = (payload : PayloadShape) (box os ns outer : List ℕ) → Fits box os ns →
+    Each (λ (s : PayloadStep). Stays os s.op) payload.steps →
+    IsMoved os ns payload outer payload outer
+
+-- BODIES
+-- slices of the inputs and of the carried tensor, the tiled operation, its insertion and the yield do one tile
+abbrev pub BodyDoesTile : Type 0
+BodyDoesTile = (g : Instance) (ts q : List ℕ) (M : ℕ → Bool) (t : State) (b : TileBody) → DoesTile g ts q M t b →
+    (arg : ValueId) (x : Grid) (c : Slice) → IsOutputOf g ts q M t b arg x c → (n : Names) → M n.result.0 ≡ false →
+    run (sliced_body b arg c n) t ≡ ended (Cells g.width) (sliced_tile (step_of g) g.box ts g.ds q x)
+
+-- so do slices of the inputs and the tiled operation, where the carried tensor isn't sliced
+abbrev pub BodyOfWholeOutput : Type 0
+BodyOfWholeOutput = (g : Instance) (ts q : List ℕ) (M : ℕ → Bool) (t : State) (b : TileBody) → DoesTile g ts q M t b →
+    (arg : ValueId) (x : Grid) → M arg.0 ≡ true → t.values arg.0 ≡ Cells g.width x →
+    x.extents ≡ picks g.ds (tile_sizes g.box ts q) → (n : Names) →
+    run (whole_body b arg n) t ≡ ended (Cells g.width) (whole_tile (step_of g) g.box ts g.ds q x)
+
+-- and the body of a `scf.forall` notes the tile down
+abbrev pub BodyNotesTile : Type 0
+BodyNotesTile = (g : Instance) (ts q : List ℕ) (M : ℕ → Bool) (t : State) (b : TileBody) → DoesTile g ts q M t b →
+    (arg : ValueId) (x : Grid) (c : Slice) → IsOutputOf g ts q M t b arg x c → (n : Names) → M n.result.0 ≡ false →
+    t.shared ≡ arg ∷ [] → t.inserts ≡ [] →
+    insertions_of (run (noting_body b arg c n) t) ≡ noted (picks g.ds (tile_offsets g.box ts q))
+    (started_tile (step_of g) g.box ts g.ds x q)
+
+-- the state in which the body of a `scf.forall` begins
+abbrev pub ForallBegins : Type 0
+ForallBegins = (N : ℕ → Bool) (u : State) (dims : List (ℕ × ℕ)) (vs : List ValueId) (lower upper stride : List Idx)
+    (arg outs : ValueId) (ty : Ty) (q : List ℕ) →
+    let h : ForallHead = record { vars = vs; lower = lower; upper = upper; step = stride; shared = (arg, ty, outs)
+    ∷ [] } in
+    TileLoop dims u h → N arg.0 ≡ false → AreNewVars (with_value N arg) vs →
+    Begins N u dims vs arg (u.values outs.0) q (forall_state u h q)
+
+-- NAMED OPERATIONS: the tile of each is of its kind
+abbrev pub MatmulTileIsMatmul : Type 0
+MatmulTileIsMatmul = (box ts q : List ℕ) (x y : Datum) (width : ℕ) (a b : ValueId) (fs : List (ValueId × Option Slice)) →
+    slice_names fs ≡ a ∷ b ∷ [] → length box ≡ 3 →
+    MeansTiled box ts (select_map 3 (0 ∷ 2 ∷ []) ∷ select_map 3 (2 ∷ 1 ∷ []) ∷ []) (0 ∷ 1 ∷ []) (x ∷ y ∷ []) width
+    (Parallel ∷ Parallel ∷ Reduction ∷ []) q fs [] (multiply_add (width_of x) width) (λ outs. Matmul a b outs)
+
+abbrev pub BatchMatmulTileIsBatchMatmul : Type 0
+BatchMatmulTileIsBatchMatmul = (box ts q : List ℕ) (x y : Datum) (width : ℕ) (a b : ValueId)
+    (fs : List (ValueId × Option Slice)) → slice_names fs ≡ a ∷ b ∷ [] → length box ≡ 4 →
+    MeansTiled box ts (select_map 4 (0 ∷ 1 ∷ 3 ∷ []) ∷ select_map 4 (0 ∷ 3 ∷ 2 ∷ []) ∷ []) (0 ∷ 1 ∷ 2 ∷ []) (x ∷ y ∷ [])
+    width (Parallel ∷ Parallel ∷ Parallel ∷ Reduction ∷ []) q fs [] (multiply_add (width_of x) width)
+    (λ outs. BatchMatmul a b outs)
+
+-- a copy into all dimensions, from those that the input's map selects
+abbrev pub MeansCopy : List ℕ → List ℕ → List ℕ → Datum → ℕ → List ℕ → List (ValueId × Option Slice) →
+    (ValueId → OpKind) → Type 0
+MeansCopy box ts ds x width q fs kind =
+    MeansTiled box ts (select_map (length box) ds ∷ []) (count_up 0 (length box)) (x ∷ []) width
+    (replicate (length box) Parallel) q fs [] (copying width) kind
+
+abbrev pub FillTileIsFill : Type 0
+FillTileIsFill = (box ts q : List ℕ) (x : Datum) (width : ℕ) (v : ValueId) (fs : List (ValueId × Option Slice)) →
+    slice_names fs ≡ v ∷ [] → MeansCopy box ts [] x width q fs (λ outs. Fill v outs)
+
+abbrev pub TransposeTileIsTranspose : Type 0
+TransposeTileIsTranspose = (box ts q order : List ℕ) (x : Datum) (width : ℕ) (v : ValueId)
+    (fs : List (ValueId × Option Slice)) → slice_names fs ≡ v ∷ [] → length order ≡ length box →
+    MeansCopy box ts (map (λ axis. place_of axis 0 order) (count_up 0 (length box))) x width q fs
+    (λ outs. Transpose v outs order)
+
+abbrev pub BroadcastTileIsBroadcast : Type 0
+BroadcastTileIsBroadcast = (box ts q added : List ℕ) (x : Datum) (width : ℕ) (v : ValueId)
+    (fs : List (ValueId × Option Slice)) → slice_names fs ≡ v ∷ [] →
+    MeansCopy box ts (kept added 0 (count_up 0 (length box))) x width q fs (λ outs. Broadcast v outs added)
+
+-- LOOPS
+-- a nest of `scf.for` over the tiles means what the generic means, where only the output's dimensions are cut, or
+-- the payload has a combiner
+abbrev pub TileForMeansGeneric : Type 0
+TileForMeansGeneric = (g : Instance) (ts : List ℕ) → IsTypedInstance g → IsFull g.out →
+    (one : List ℕ → Grid → Option Grid) → AddsRegions (picks g.ds) (step_of g) g.box g.out.extents ts one →
+    (N : ℕ → Bool) (u : State) (lower : ValueId) (ty : Ty) (l : Level) (ls : List Level) (current : ValueId)
+    (inner : List Op) →
+    IsNest N u (cut_dims g.box ts) lower l ls current g.width g.out one inner →
+    CutsOutput (is_cut ts) g.box g.ds ⊎ Combines g.payload →
+    kind_meaning (nest_op lower ty l ls inner current).kind ((l.result, ty) ∷ []) u
+    ≡ made ((l.result, ty) ∷ []) u (result_of g)
+
+-- and so does a `scf.forall`, where only the output's dimensions are cut
+abbrev pub TileForallMeansGeneric : Type 0
+TileForallMeansGeneric = (g : Instance) (ts : List ℕ) → IsTypedInstance g → IsFull g.out →
+    CutsOutput (is_cut ts) g.box g.ds →
+    (u : State) (vs : List ValueId) (lower upper stride : List Idx) (arg outs : ValueId) (ty : Ty) (inner : List Op)
+    (rs : List (ValueId × Ty)) →
+    let h : ForallHead = record { vars = vs; lower = lower; upper = upper; step = stride; shared = (arg, ty, outs)
+    ∷ [] } in
+    TileLoop (cut_dims g.box ts) u h → u.values outs.0 ≡ Cells g.width g.out →
+    NotesTiles u h (cut_dims g.box ts) (λ q. picks g.ds (tile_offsets g.box ts q))
+    (started_tile (step_of g) g.box ts g.ds g.out) inner →
+    kind_meaning (Forall vs lower upper stride ((arg, ty, outs) ∷ []) inner) rs u ≡ made rs u (result_of g)

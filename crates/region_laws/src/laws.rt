@@ -1,0 +1,45 @@
+ghost use Rattle.region_laws.specs.Laws.{TypedByAxes, OperandsHaveTiles, TilesHaveBox, TiledGenericIsTile, TilesAddRegions, SliceOfWholeIsTile};
+ghost use Rattle.region_laws.specs.Laws.{IndicesMove, OthersStay, BodyDoesTile, BodyOfWholeOutput, BodyNotesTile, ForallBegins};
+ghost use Rattle.region_laws.specs.Laws.{MatmulTileIsMatmul, BatchMatmulTileIsBatchMatmul, FillTileIsFill, TransposeTileIsTranspose, BroadcastTileIsBroadcast};
+ghost use Rattle.region_laws.specs.Laws.{TileForMeansGeneric, TileForallMeansGeneric};
+
+// The functions here have no code: their contracts are the laws, over the definitions in `specs/`.
+
+/// A generic on the tiles of its operands is the tile of the generic.
+pub fn generics_have_tiles()
+    ensures typed { TypedByAxes }
+    ensures operands { OperandsHaveTiles }
+    ensures box_of { TilesHaveBox }
+    ensures tile { TiledGenericIsTile }
+    ensures adds { TilesAddRegions }
+    ensures slice { SliceOfWholeIsTile }
+{}
+
+/// The payload on a tile gives at a point what the payload gives at the point moved by the offsets.
+pub fn payloads_move_with_tiles()
+    ensures indices { IndicesMove }
+    ensures others { OthersStay }
+{}
+
+/// The operations of a body, from the slices on, do one tile.
+pub fn bodies_do_one_tile()
+    ensures nest { BodyDoesTile }
+    ensures whole { BodyOfWholeOutput }
+    ensures at_once { BodyNotesTile }
+    ensures begins { ForallBegins }
+{}
+
+/// The tile of a named operation is one of its kind.
+pub fn named_tiles_are_named()
+    ensures matmul { MatmulTileIsMatmul }
+    ensures batch_matmul { BatchMatmulTileIsBatchMatmul }
+    ensures fill { FillTileIsFill }
+    ensures transpose { TransposeTileIsTranspose }
+    ensures broadcast { BroadcastTileIsBroadcast }
+{}
+
+/// Loops over the tiles of a generic mean what it means.
+pub fn loops_over_tiles_mean_the_whole()
+    ensures nest { TileForMeansGeneric }
+    ensures at_once { TileForallMeansGeneric }
+{}

@@ -1,0 +1,5 @@
+pub mod Axes
+pub mod Reading
+pub mod Fitting
+pub mod Bridge
+pub mod Stated

@@ -1,0 +1,40 @@
+-- The laws. Each is the contract of a function in `src/laws.rt`.
+use Rattle.std.specs.Prelude.{◌≡◌, ℕ, ◌<◌, Bool, true, false, List, ◌∷◌, Some, slice_index_or, length}
+use Rattle.mlir_ir.specs.Shape.{FuncShape, TensorShape}
+use Rattle.mlir_ir.specs.declared.tree.Iter.TheVariants.{Parallel}
+use Rattle.mlir_ir.specs.declared.tree.Op.{Op}
+use Rattle.mlir_ir.specs.declared.tree.Ty.{Ty}
+use Rattle.mlir_meaning.specs.Contexts.{Context, plug, Reaches}
+use Rattle.mlir_meaning.specs.Meaning.{initial_state}
+use Rattle.mlir_meaning.specs.States.{State}
+use Rattle.mlir_verify.specs.Place.{type_among}
+use Rattle.region_laws.specs.Instances.{IsTypedInstance}
+use Rattle.region_laws.specs.Operands.{CutsOutput}
+use Rattle.verified_runs.specs.Forms.{Structured, kind_of}
+use Rattle.verified_runs.specs.Passes.{Scope, OpPasses, FuncPasses}
+use Rattle.verified_runs.specs.Typed.{AreTyped, AreOf, types_of}
+use Rattle.tile_bridge.specs.Instances.{IsInstance, instance_of, is_parallel}
+
+-- a generic at which no rule fails is an instance in each typed state: its operands fit its box
+abbrev pub OperandsFitBox : Type 0
+OperandsFitBox = (scope : Scope) (wanted : List Ty) (o : Op) (g : Structured) → OpPasses scope wanted o →
+    o.kind ≡ kind_of g →
+    (u : State) → AreTyped (type_among scope) u → IsInstance g u
+
+-- so it is in each state that a run of a verified function brings to it
+abbrev pub RunsReachInstances : Type 0
+RunsReachInstances = (f : FuncShape) (k : Context) (o : Op) (os : List Op) (g : Structured) (inputs : List TensorShape)
+    (u : State) →
+    FuncPasses f → f.body ≡ plug k (o ∷ os) → o.kind ≡ kind_of g → AreOf (types_of f.params) inputs →
+    Reaches k (o ∷ os) (initial_state f.params inputs) u →
+    IsInstance g u
+
+-- an instance has what the laws of tiles ask of a generic
+abbrev pub InstancesAreTyped : Type 0
+InstancesAreTyped = (g : Structured) (u : State) → IsInstance g u → IsTypedInstance (instance_of g u)
+
+-- where parallel dimensions alone are cut, the output's alone are
+abbrev pub ParallelCutsOutput : Type 0
+ParallelCutsOutput = (g : Structured) (u : State) → IsInstance g u → (cut : ℕ → Bool) →
+    ((d : ℕ) → d < length g.iterators → cut d ≡ true → is_parallel (slice_index_or g.iterators d Parallel) ≡ true) →
+    CutsOutput cut (instance_of g u).box (instance_of g u).ds
