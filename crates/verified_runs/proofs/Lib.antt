@@ -1,0 +1,16 @@
+pub mod Defined
+pub mod Inputs
+pub mod Tables
+pub mod Outputs
+pub mod Operations
+pub mod Runs
+pub mod Verified
+pub mod OneState
+pub mod Places
+pub mod Steps
+pub mod Results
+pub mod Named
+pub mod Reused
+pub mod ReusedBodies
+pub mod Formed
+pub mod FormedOne
