@@ -5,7 +5,7 @@ use mir.Syntax.{w128}
 use Rattle.std.proofs.lemmas.Nat.{mul-le}
 use Rattle.std.proofs.lemmas.Bool.Decides.{nat_tests}
 use borrow.Author.Differences.{up, down, product_is, sum_is_lem}
-use Rattle.payload_ops.specs.Numbers.{is_in_range}
+use Rattle.mlir_base.specs.Numbers.{is_in_range}
 
 pub mul_over_add : (a b c : ℤ) → (a +ℤ b) *ℤ c ≡ a *ℤ c +ℤ b *ℤ c
 mul_over_add a b c =

@@ -9,7 +9,7 @@ use Rattle.std.proofs.lemmas.List.{drop_all}
 use Rattle.std.proofs.lemmas.Int.{ints}
 use Rattle.affine_maps.specs.Value.{weighted_sum}
 use Rattle.affine_maps.specs.Terms.{are_small, are_below}
-use Rattle.payload_ops.specs.Numbers.{is_in_range}
+use Rattle.mlir_base.specs.Numbers.{is_in_range}
 use Rattle.affine_maps.specs.Map.{terms_fit}
 
 pub and_left : (a b : Bool) → IsTrue (a && b) → IsTrue a

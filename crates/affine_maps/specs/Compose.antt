@@ -2,7 +2,7 @@
 -- inner map's value there.
 use Rattle.std.specs.Prelude.{ℕ, zero, suc, ◌==◌, ◌&&◌, Bool, ℤ, pos, negsuc, ◌+ℤ◌, List, [], ◌∷◌, map, slice_index_or, if◌then◌else◌}
 use Rattle.std.specs.List.{list_all}
-use Rattle.payload_ops.specs.Numbers.{is_in_range}
+use Rattle.mlir_base.specs.Numbers.{is_in_range}
 use Rattle.affine_maps.specs.Shape.{MapShape}
 use Rattle.affine_maps.specs.Value.{weighted_sum}
 use Rattle.affine_maps.specs.declared.map.Expr.{Expr}

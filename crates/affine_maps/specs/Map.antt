@@ -1,7 +1,7 @@
 -- Which expressions a map may have (Affine manual, "Affine Expressions" and "Affine Maps").
 use Rattle.std.specs.Prelude.{ℕ, zero, suc, ◌+◌, ℤ, pos, Bool, true, ◌&&◌, nat_lt, nat_le, IsTrue, List, [], ◌∷◌, ◌++◌}
 use Rattle.std.specs.List.{list_all}
-use Rattle.payload_ops.specs.Numbers.{is_in_range, is_coefficient}
+use Rattle.mlir_base.specs.Numbers.{is_in_range, is_coefficient}
 use Rattle.affine_maps.specs.Shape.{MapShape}
 use Rattle.affine_maps.specs.declared.map.Expr.{Expr}
 

@@ -2,7 +2,7 @@ ghost use Rattle.std.specs.Prelude.{◌≡◌, IsSome, IfSome, ◌↔◌};
 ghost use Rattle.std.specs.List.{list_all};
 ghost use Rattle.affine_maps.specs.Map.{terms_fit, expr_fits, IsMap};
 
-use payload_ops::{List, is_coefficient, is_in_range};
+use mlir_base::{List, is_coefficient, is_in_range};
 use std::marker::Model;
 
 /// A constant and a sum of coefficients times dimensions (Affine manual, "Affine Expressions").
@@ -99,7 +99,7 @@ fn terms_fit(dims: u32, terms: &[(u32, i64)]) -> bool
 #[cfg(test)]
 mod tests {
     use super::{AffineMap, Expr};
-    use payload_ops::{List, Memory};
+    use mlir_base::{List, Memory};
 
     #[test]
     fn refuses_a_dimension_that_it_has_not(rt: HostRuntime) -> Result<(), Memory> {

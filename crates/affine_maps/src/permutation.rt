@@ -71,7 +71,7 @@ impl AffineMap {
 #[cfg(test)]
 mod tests {
     use crate::map::{AffineMap, Expr};
-    use payload_ops::{List, Memory};
+    use mlir_base::{List, Memory};
 
     #[test]
     fn tells_projected_permutations(rt: HostRuntime) -> Result<(), Memory> {

@@ -1,6 +1,6 @@
 ghost use Rattle.std.specs.Prelude.{◌≡◌, ◌≤◌, ◌<◌, ◌^◌, ◌+ℤ◌, ◌*ℤ◌, length, unsigned_abs, IsTrue, map};
 ghost use Rattle.std.specs.List.{list_all};
-ghost use Rattle.payload_ops.specs.Numbers.{is_in_range};
+ghost use Rattle.mlir_base.specs.Numbers.{is_in_range};
 ghost use Rattle.affine_maps.specs.Map.{expr_fits, IsMap};
 ghost use Rattle.affine_maps.specs.Value.{coordinate, is_coordinate, value_at, map_value};
 
@@ -78,7 +78,7 @@ impl AffineMap {
 #[cfg(test)]
 mod tests {
     use crate::map::{AffineMap, Expr};
-    use payload_ops::{List, Memory};
+    use mlir_base::{List, Memory};
 
     /// (d0, d1) -> (7 + 3 * d0 - 2 * d1, d1)
     #[test]

@@ -12,7 +12,7 @@ use Rattle.std.proofs.Math.Seq.{drop-cons}
 use Rattle.std.proofs.Math.ListN.{drop_of_length-le}
 use Rattle.std.proofs.lemmas.Map.Lookups.{exact_unsigned}
 use Rattle.std.proofs.lemmas.Bool.{cond-true, cond-false, and_parts, and_from, le-leb, leb-false, eqb-false, leb-true, eqb-true}
-use Rattle.payload_ops.specs.Numbers.{is_in_range, is_coefficient}
+use Rattle.mlir_base.specs.Numbers.{is_in_range, is_coefficient}
 use Rattle.affine_maps.specs.declared.map.Expr.{Expr}
 use Rattle.affine_text.specs.Collected.{is_zero, coefficient, with_coefficient, plus_term, plus_terms, terms_in_range, form_in_range}
 use Rattle.affine_text.specs.Multiples.{ascends, are_coefficients, is_sum, is_collected, times_terms, with_terms, AddsTerm, AddsTerms}

@@ -11,7 +11,7 @@ use Rattle.std.proofs.lemmas.Int.{ints}
 use Rattle.std.proofs.lemmas.List.{append-nil}
 use Rattle.std.proofs.lemmas.Bool.{cond-true, cond-false, and_parts, and_from, leb-true, eqb-true, ne_eqb}
 use Rattle.text_format.specs.declared.class.Class.{Class}
-use Rattle.payload_ops.specs.Numbers.{is_in_range}
+use Rattle.mlir_base.specs.Numbers.{is_in_range}
 use Rattle.affine_maps.specs.Shape.{MapShape}
 use Rattle.affine_maps.specs.declared.map.Expr.{Expr}
 use Rattle.affine_maps.specs.Map.{IsMap}

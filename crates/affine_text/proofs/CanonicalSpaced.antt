@@ -11,7 +11,7 @@ use Rattle.text_format.specs.Bytes.{front, mark_front, is_digit}
 use Rattle.text_format.specs.Pieces.{Piece, Fixed, bytes_of, Ends, IsSpaced}
 use Rattle.text_format.proofs.Spacing.{IsApart, Opens, IsClosed, none_apart, none_opens, space_opens, fixed_opens, fixed_closed, fixed_word, leaf_name, leaf_closed, append_apart, dimension_name, decimal_name, decimal_some, decimal_in_digits, all_in, minus_ends, spaced_append, lexeme_closed}
 use Rattle.text_format.proofs.Spacing as spacing
-use Rattle.payload_ops.specs.Numbers.{is_in_range}
+use Rattle.mlir_base.specs.Numbers.{is_in_range}
 use Rattle.affine_maps.specs.Shape.{MapShape}
 use Rattle.affine_maps.specs.declared.map.Expr.{Expr}
 use Rattle.affine_maps.specs.Map.{IsMap}

@@ -14,7 +14,7 @@ use Rattle.std.proofs.lemmas.Int.{unsigned_abs-mul}
 use Rattle.std.proofs.lemmas.Bool.{and_parts, and_from}
 use Rattle.std.proofs.lemmas.Bool.Decides.{nat_tests}
 use Rattle.std.proofs.lemmas.List.Folds.{list_all-append}
-use Rattle.payload_ops.specs.Numbers.{is_in_range, is_coefficient}
+use Rattle.mlir_base.specs.Numbers.{is_in_range, is_coefficient}
 use Rattle.affine_maps.specs.Map.{terms_fit, expr_fits, IsMap}
 use Rattle.affine_maps.specs.Shape.{MapShape}
 use Rattle.affine_maps.specs.declared.map.Expr.{Expr}

@@ -2,7 +2,7 @@
 use Rattle.std.proofs.Common.{◌≡◌, ◌<◌, ◌≤◌, ℕ, ◌+◌, true, ◌&&◌, ℤ, List, [], ◌∷◌, unsigned_abs, nat_le, nat_lt}
 use Rattle.std.specs.List.{AllByRecursion, list_all}
 use Rattle.std.proofs.lemmas.Bool.{and_parts, leb-true, ltb-true}
-use Rattle.payload_ops.specs.Numbers.{is_in_range, is_coefficient}
+use Rattle.mlir_base.specs.Numbers.{is_in_range, is_coefficient}
 use Rattle.affine_maps.specs.declared.map.Expr.{Expr}
 use Rattle.affine_maps.specs.Map.{terms_fit, expr_fits}
 

@@ -3,7 +3,7 @@ use Rattle.std.specs.Prelude.{ℕ, Bool, true, false, ◌&&◌, ℤ, pos, negsuc
 use Rattle.std.specs.Map.{lookup, remove_entry}
 use Rattle.std.specs.Ordering.{nat_cmp}
 use Rattle.std.specs.BTreeMap.{insert_entry, is_at}
-use Rattle.payload_ops.specs.Numbers.{is_in_range}
+use Rattle.mlir_base.specs.Numbers.{is_in_range}
 use Rattle.affine_maps.specs.declared.map.Expr.{Expr}
 
 abbrev pub is_zero : ℤ → Bool

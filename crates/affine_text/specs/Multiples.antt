@@ -1,7 +1,7 @@
 -- A linear form in a multiple, by the greatest magnitude of the form's numbers.
 use Rattle.std.specs.Prelude.{◌≡◌, ℕ, ◌+◌, ◌*◌, ◌^◌, ◌<◌, ◌≤◌, Bool, true, false, ◌&&◌, ℤ, nat_le, ◌*ℤ◌, ◌+ℤ◌, unsigned_abs, max, List, [], ◌∷◌, map, Result, Ok, Err}
-use Rattle.payload_ops.specs.Numbers.{is_in_range, is_coefficient}
-use Rattle.payload_ops.specs.declared.memory.Memory.{Memory}
+use Rattle.mlir_base.specs.Numbers.{is_in_range, is_coefficient}
+use Rattle.mlir_base.specs.declared.memory.Memory.{Memory}
 use Rattle.affine_maps.specs.declared.map.Expr.{Expr}
 use Rattle.affine_text.specs.declared.reading.multiple.Multiple.{Multiple}
 use Rattle.affine_text.specs.declared.reading.fault.MapError.TheVariants as faults

@@ -7,7 +7,7 @@ ghost use Rattle.affine_text.specs.Text.{dimension_text, is_one, is_minus_one, f
 
 use affine_maps::{AffineMap, Expr};
 use itoa::Buffer;
-use payload_ops::{List, Memory};
+use mlir_base::{List, Memory};
 use std::alloc::Global;
 
 fn write_dimension(out: &mut Vec<u8>, dimension: u32) -> Result<(), Memory>
@@ -186,7 +186,7 @@ pub fn map_text(alloc: Global, map: &AffineMap) -> Result<List<u8>, Memory>
 mod tests {
     use super::map_text;
     use affine_maps::{AffineMap, Expr};
-    use payload_ops::List;
+    use mlir_base::List;
     use std::test::Fail;
 
     #[test]

@@ -6,7 +6,7 @@ use crate::bounds::{plain_lower, plain_upper};
 use crate::facts::Facts;
 use crate::form::LinForm;
 use crate::normal::normal;
-use payload_ops::Memory;
+use mlir_base::Memory;
 use std::alloc::Global;
 
 /// An upper bound of a form, whatever values agree with the facts. `None` exactly where no choice of

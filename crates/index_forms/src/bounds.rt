@@ -4,7 +4,7 @@ ghost use Rattle.index_forms.specs.Forms.{AreFacts, AreForms, IsFact, Falls, cho
 
 use crate::form::{Fact, LinForm, moved, plus_scaled};
 use crate::plain::met;
-use payload_ops::{List, Memory};
+use mlir_base::{List, Memory};
 use std::alloc::Global;
 
 /// Why the elimination gave up.

@@ -5,7 +5,7 @@ ghost use Rattle.index_forms.specs.Same.{NoneFrom};
 
 use crate::form::{Fact, LIMIT, LinForm};
 use crate::normal::{coefficient, equal, is_in_range};
-use payload_ops::List;
+use mlir_base::List;
 use std::marker::Model;
 
 /// Tells whether each of these atoms is below `count` or has the coefficient 0.
@@ -197,7 +197,7 @@ impl Facts {
 mod tests {
     use super::Facts;
     use crate::form::{Fact, LinForm};
-    use payload_ops::{List, Memory};
+    use mlir_base::{List, Memory};
 
     #[test]
     fn refuses_a_step_below_1_and_a_later_atom(rt: HostRuntime) -> Result<(), Memory> {

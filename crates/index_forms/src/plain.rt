@@ -4,7 +4,7 @@ ghost use Rattle.index_forms.specs.Facts.{normal_fact, normal_facts, AllIn, Fact
 
 use crate::form::{Fact, LinForm};
 use crate::normal::normal;
-use payload_ops::{List, Memory};
+use mlir_base::{List, Memory};
 use std::alloc::Global;
 
 /// The normal form of a form whose numbers stay within the limit.

@@ -1,5 +1,5 @@
 use crate::{Fact, Facts, LinForm, lower, upper};
-use payload_ops::{List, Memory};
+use mlir_base::{List, Memory};
 use std::alloc::Global;
 
 fn form(constant: i64, terms: &[(u32, i64)], alloc: Global) -> Result<LinForm, Memory> {

@@ -39,7 +39,7 @@ fn count_in(kind: &OpKind) -> u32
 #[cfg(test)]
 mod tests {
     use crate::tree::{Func, Module, Op, OpId, OpKind, ValueId};
-    use payload_ops::{List, Memory, Name};
+    use mlir_base::{List, Memory, Name};
 
     #[test]
     fn counts_the_inside_of_a_loop(rt: HostRuntime) -> Result<(), Memory> {

@@ -5,7 +5,6 @@
 //! - `Tensor` holds the cells of a tensor.
 //! - `find` looks an operation up by its number, `uses` counts the operands that name a value,
 //!   `count_ops` the operations, and `depth` the loops around one.
-//! - `Which` names a limit.
 //!
 //! `specs/Count.antt` says what the operands and the operations of a tree are, `specs/Depth.antt` how
 //! deep they stand, and `specs/Shape.antt` what contracts see of a function and a tensor.
@@ -22,4 +21,4 @@ pub use count::count_ops;
 pub use look::find;
 pub use nesting::depth;
 pub use place::uses;
-pub use tree::{Extent, Func, Idx, Iter, Module, Op, OpId, OpKind, Tensor, Ty, ValueId, Which};
+pub use tree::{Extent, Func, Idx, Iter, Module, Op, OpId, OpKind, Tensor, Ty, ValueId};

@@ -1,5 +1,6 @@
 use affine_maps::AffineMap;
-use payload_ops::{Combiner, ElemTy, List, Name, Payload, StepOp, Width};
+use mlir_base::{ElemTy, List, Name, Width};
+use payload_ops::{Combiner, Payload, StepOp};
 use std::marker::Model;
 
 /// The number of a value of a function: a parameter, a result, or what a loop gives its body.
@@ -238,24 +239,4 @@ impl Model for Tensor {
     ghost view = { λ t. record { extents = t.extents; elem = t.elem; cells = t.cells } };
 
     ghost invariant = { λ t. IsTensor t.extents t.elem t.cells };
-}
-
-/// Which limit was passed.
-#[derive(Clone, Copy, Debug, PartialEq, Eq)]
-pub enum Which {
-    Bytes,
-    Operations,
-    Depth,
-    Parameters,
-    Results,
-    Operands,
-    PayloadSteps,
-    ScriptSteps,
-    Rank,
-    Loops,
-    Extent,
-    Elements,
-    Lanes,
-    Cells,
-    Work,
 }

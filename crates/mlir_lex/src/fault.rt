@@ -4,8 +4,7 @@ ghost use Rattle.std.specs.Prelude.{◌≡◌};
 ghost use Rattle.mlir_lex.specs.Faults.{reach_of, fault_error, stop_by};
 
 use crate::read_error::ReadError;
-use mlir_ir::Which;
-use payload_ops::Memory;
+use mlir_base::{Memory, Which};
 use text_format::{Reason, Stopped};
 
 /// A fault of a tree's names, types or numbers, with the place of its token.

@@ -4,7 +4,7 @@ ghost use Rattle.std.specs.Prelude.{◌≡◌, slice_get, option_map};
 ghost use Rattle.text_format.specs.Tokens.{with_text};
 ghost use Rattle.mlir_lex.specs.Lexed.{AreTokens};
 
-use payload_ops::List;
+use mlir_base::List;
 use std::marker::Model;
 use text_format::Span as Token;
 

@@ -3,8 +3,7 @@
 ghost use Rattle.std.specs.Prelude.{◌≡◌};
 ghost use Rattle.mlir_lex.specs.Refusals.{read_error};
 
-use mlir_ir::Which;
-use payload_ops::Memory;
+use mlir_base::{Memory, Which};
 use text_format::LexError;
 
 /// Why a text is refused. A place is the number of bytes before it; the end of the text is its length.

@@ -1,11 +1,12 @@
 -- The points of a box and their places, and the cells of a tabulated grid.
-use Rattle.std.proofs.Common.{◌≡◌, ℕ, zero, suc, ◌+◌, ◌*◌, ◌<◌, ◌≤◌, List, [], ◌∷◌, ◌++◌, map, length, get_or, Option, Some, refl, ap, sym, ◌∙◌, arith, length-append, zero-add, add-zero, suc-mul, add-mul, zero-mul, suc-add}
-use Rattle.std.specs.Prelude.{flat_map, option_map}
+use Rattle.std.proofs.Common.{◌≡◌, ℕ, zero, suc, ◌+◌, ◌*◌, ◌<◌, ◌≤◌, List, [], ◌∷◌, ◌++◌, map, length, get_or, Option, Some, ⊎_elim, Bool, true, false, nat_lt, refl, ap, sym, ◌∙◌, arith, length-append, zero-add, add-zero, suc-mul, add-mul, zero-mul, suc-add}
+use Rattle.std.specs.Prelude.{flat_map, option_map, if◌then◌else◌}
 use Rattle.std.proofs.Math.Nat.{mul_comm}
+use Rattle.std.proofs.lemmas.Bool.{lt-ltb, ltb-true, and_parts, and_from, cases_Bool, false≢true}
 use Rattle.std.proofs.lemmas.Nat.{mul-add-lt}
 use Rattle.std.proofs.lemmas.List.{length-map, map-append, get_or_append_left, get_or-append-add, get_or-map}
 use Rattle.mlir_ir.specs.Shape.{volume}
-use Rattle.mlir_meaning.specs.Grids.{Grid, count_up, points, place, at, tabulate, all_some, settled, IsFull, InBox, Each}
+use Rattle.mlir_meaning.specs.Grids.{Grid, count_up, points, place, is_inside, outside, at, tabulate, all_some, settled, IsFull, InBox, Each}
 
 pub map-map : {A B C : Type 0} (f : B → C) (g : A → B) (xs : List A) → map f (map g xs) ≡ map (λ x. f (g x)) xs
 map-map f g [] = refl
@@ -116,11 +117,50 @@ pub places_of_points : (es : List ℕ) → map (place es) (points es) ≡ count_
 places_of_points [] = refl
 places_of_points (e ∷ es) = rows_placed e es (places_of_points es) e 0 ∙ ap (λ b. count_up b (e * volume es)) (zero-mul (volume es))
 
+-- THE TEST
+pub inside_true : (es p : List ℕ) → InBox es p → is_inside es p ≡ true
+inside_true [] [] h = refl
+inside_true (e ∷ es) (i ∷ p) h = and_from (nat_lt i e) (is_inside es p) (lt-ltb i e h.0) (inside_true es p h.1)
+inside_true [] (i ∷ p) h = absurd h
+inside_true (e ∷ es) [] h = absurd h
+
+pub inside_in : (es p : List ℕ) → is_inside es p ≡ true → InBox es p
+inside_in [] [] h = tt
+inside_in (e ∷ es) (i ∷ p) h =
+    let both : (nat_lt i e ≡ true) × (is_inside es p ≡ true) = and_parts (nat_lt i e) (is_inside es p) h in (ltb-true i e both.0, inside_in es p both.1)
+inside_in [] (i ∷ p) h = absurd (false≢true h)
+inside_in (e ∷ es) [] h = absurd (false≢true h)
+
+pub outside_false : (es p : List ℕ) → (InBox es p → ⊥) → is_inside es p ≡ false
+outside_false es p out = ⊎_elim (λ t. absurd (out (inside_in es p t))) (λ f. f) (cases_Bool (is_inside es p))
+
+-- ELEMENTS
+-- the element at a point of the box is the cell at its place
+pub at-inside : (g : Grid) (p : List ℕ) → InBox g.extents p → at g p ≡ get_or g.cells (place g.extents p) 0
+at-inside g p h = λ j. if inside_true g.extents p h j then get_or g.cells (place g.extents p) 0 else outside
+
+pub at-outside : (g : Grid) (p : List ℕ) → (InBox g.extents p → ⊥) → at g p ≡ outside
+at-outside g p h = λ j. if outside_false g.extents p h j then get_or g.cells (place g.extents p) 0 else outside
+
+each_get : (P : ℕ → Type 0) (cells : List ℕ) → Each P cells → P 0 → (k : ℕ) → P (get_or cells k 0)
+each_get P [] h z k = z
+each_get P (c ∷ cells) h z zero = h.0
+each_get P (c ∷ cells) h z (suc k) = each_get P cells h.1 z k
+
+-- what holds of each cell, and of what stands outside, holds of each element
+pub at-each : (P : ℕ → Type 0) (g : Grid) → Each P g.cells → P outside → (p : List ℕ) → P (at g p)
+at-each P g h z p = either (is_inside g.extents p)
+  where
+    either : (b : Bool) → P (if b then get_or g.cells (place g.extents p) 0 else outside)
+    either true = each_get P g.cells h z (place g.extents p)
+    either false = z
+
 -- TABLES
 -- the element of a table at a point of its box
 pub at-tabulate : (es p : List ℕ) (f : List ℕ → ℕ) → InBox es p → at (tabulate es f) p ≡ f p
 at-tabulate es p f h =
-    get_or-map f (points es) (place es p) [] 0 (omega (arith, place_lt es p h, points_length es)) ∙ ap f (point_at es p h)
+    at-inside (tabulate es f) p h
+    ∙ get_or-map f (points es) (place es p) [] 0 (omega (arith, place_lt es p h, points_length es)) ∙ ap f (point_at es p h)
 
 pub tabulate_full : (es : List ℕ) (f : List ℕ → ℕ) → IsFull (tabulate es f)
 tabulate_full es f = length-map (points es) f ∙ points_length es
@@ -144,7 +184,9 @@ all_read (x ∷ cells) =
 pub tabulated : (g : Grid) → IsFull g → tabulate g.extents (at g) ≡ g
 tabulated g h =
     let cells : map (at g) (points g.extents) ≡ g.cells =
-    sym (map-map (λ k. get_or g.cells k 0) (place g.extents) (points g.extents)) ∙ ap (map (λ k. get_or g.cells k 0)) (places_of_points g.extents ∙ sym (ap (count_up 0) h))
+    map_same (at g) (λ p. get_or g.cells (place g.extents p) 0) (points g.extents)
+    (each_more (InBox g.extents) (λ p. at g p ≡ get_or g.cells (place g.extents p) 0) (at-inside g) (points g.extents) (each_point g.extents))
+    ∙ sym (map-map (λ k. get_or g.cells k 0) (place g.extents) (points g.extents)) ∙ ap (map (λ k. get_or g.cells k 0)) (places_of_points g.extents ∙ sym (ap (count_up 0) h))
     ∙ all_read g.cells in
     λ j. record { extents = g.extents; cells = cells j }
 

@@ -13,3 +13,6 @@ pub mod Named
 pub mod Settled
 pub mod Cells
 pub mod Trees
+pub mod States
+pub mod OneState
+pub mod Removed

@@ -3,11 +3,11 @@ use Rattle.std.proofs.Common.{◌≡◌, ℕ, ◌<◌, List, [], ◌∷◌, map,
 use Rattle.std.specs.Prelude.{option_map, option_and_then, if◌then◌else◌}
 use Rattle.std.proofs.lemmas.Bool.{cases_Bool}
 use Rattle.std.proofs.lemmas.List.{length-map, get_or-map}
-use Rattle.std.proofs.lemmas.Option.{none-some}
+use Rattle.std.proofs.lemmas.Option.{none-some, same_Some}
 use Rattle.mlir_ir.specs.Shape.{volume}
-use Rattle.mlir_meaning.specs.Grids.{Grid, points, place, at, plus, minus, lies_in, all_some, settled, InBox, Fits, Each}
+use Rattle.mlir_meaning.specs.Grids.{Grid, points, place, at, plus, minus, lies_in, all_some, settled, IsFull, InBox, Fits, Each}
 use Rattle.mlir_meaning.specs.Moves.{insert_into}
-use Rattle.mlir_meaning.proofs.Grids.{points_length, place_lt, point_at, each_point, settled_some}
+use Rattle.mlir_meaning.proofs.Grids.{points_length, place_lt, point_at, each_point, at-inside, settled_some}
 use Rattle.mlir_meaning.proofs.Regions.{MovedIn, moved_in, moved_back}
 
 -- either all values are there, or one is not
@@ -27,6 +27,7 @@ made_all P h (x ∷ xs) each = made_more P h x xs each.0 (h x) (all_some (map h 
 
 pub record HasCells (es : List ℕ) (h : List ℕ → Option ℕ) : Type 0 where
   pub cells : List ℕ
+  pub full : length cells ≡ volume es
   pub settles : settled es h ≡ Some (record { extents = es; cells = cells })
   pub reads : (p : List ℕ) → InBox es p → h p ≡ Some (at (record { extents = es; cells = cells }) p)
 
@@ -41,17 +42,25 @@ view_of es h None e m =
     inr (record { traps = ap (λ o. option_map (λ cells. record { extents = es; cells = cells }) o) e; point = m.0; inside = m.1; missing = m.2 })
 view_of es h (Some cs) e m = inl (record {
   cells = cs;
+  full = sym (length-map cs (λ c. Some c)) ∙ ap length (sym m) ∙ length-map (points es) h ∙ points_length es;
   settles = ap (λ o. option_map (λ cells. record { extents = es; cells = cells }) o) e;
   reads = λ p b.
       let long : length (points es) ≡ length cs = sym (length-map (points es) h) ∙ ap length m ∙ length-map cs (λ c. Some c) in
       let lt : place es p < volume es = place_lt es p b in
       let size : length (points es) ≡ volume es = points_length es in
       sym (get_or-map h (points es) (place es p) [] None (omega arith) ∙ ap h (point_at es p b))
-      ∙ ap (λ xs. get_or xs (place es p) None) m ∙ get_or-map (λ c. Some c) cs (place es p) 0 None (omega arith);
+      ∙ ap (λ xs. get_or xs (place es p) None) m ∙ get_or-map (λ c. Some c) cs (place es p) 0 None (omega arith)
+      ∙ ap (λ c. Some c) (sym (at-inside (record { extents = es; cells = cs }) p b));
 })
 
 pub view : (es : List ℕ) (h : List ℕ → Option ℕ) → HasCells es h ⊎ HasTrap es h
 view es h = view_of es h _ refl (made_all (InBox es) h (points es) (each_point es))
+
+-- a table that is there has one cell for each point
+pub settled_full : (es : List ℕ) (h : List ℕ → Option ℕ) (cs : List ℕ) → settled es h ≡ Some (record { extents = es; cells = cs }) → IsFull (record { extents = es; cells = cs })
+settled_full es h cs e =
+    ⊎_elim (λ (c : HasCells es h). ap (λ (g : Grid). length g.cells) (same_Some (record { extents = es; cells = cs }) (record { extents = es; cells = c.cells }) (sym e ∙ c.settles)) ∙ c.full)
+    (λ (t : HasTrap es h). absurd (none-some _ (sym t.traps ∙ e))) (view es h)
 
 -- a trap at one point is a trap of the whole
 pub settled_none : (es : List ℕ) (h : List ℕ → Option ℕ) (p : List ℕ) → InBox es p → h p ≡ None → settled es h ≡ None

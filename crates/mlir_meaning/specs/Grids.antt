@@ -1,6 +1,6 @@
 -- Boxes, their points in lexicographic order, and grids: the cells of a tensor or a vector in row-major order
 -- (Builtin manual, "RankedTensorType" and "VectorType"). A box is given by its extents, a point by its coordinates.
-use Rattle.std.specs.Prelude.{◌≡◌, ℕ, zero, suc, ◌+◌, ◌-◌, ◌*◌, ◌<◌, ◌≤◌, ◌==◌, ◌&&◌, nat_lt, Bool, true, false, List, [], ◌∷◌, map, flat_map, length, slice_index, Option, Some, option_map, option_and_then, ⊤}
+use Rattle.std.specs.Prelude.{◌≡◌, ℕ, zero, suc, ◌+◌, ◌-◌, ◌*◌, ◌<◌, ◌≤◌, ◌==◌, ◌&&◌, nat_lt, Bool, true, false, List, [], ◌∷◌, map, flat_map, length, slice_index, Option, Some, option_map, option_and_then, if◌then◌else◌, ⊤}
 use Rattle.mlir_ir.specs.Shape.{volume}
 pub use Rattle.mlir_meaning.specs.declared.values.Grid.{Grid}
 
@@ -20,9 +20,19 @@ place [] p = 0
 place (e ∷ es) [] = 0
 place (e ∷ es) (i ∷ p) = i * volume es + place es p
 
--- the element at a point
+-- whether the point lies in the box
+abbrev pub is_inside : List ℕ → List ℕ → Bool
+is_inside [] [] = true
+is_inside (e ∷ es) (i ∷ p) = nat_lt i e && is_inside es p
+is_inside _ _ = false
+
+-- what a grid gives at a point outside its box
+abbrev pub outside : ℕ
+outside = 0
+
+-- the element at a point of the box; at any other no cell is read
 abbrev pub at : Grid → List ℕ → ℕ
-at g p = slice_index g.cells (place g.extents p)
+at g p = if is_inside g.extents p then slice_index g.cells (place g.extents p) else outside
 
 -- the grid with this element at each point
 abbrev pub tabulate : List ℕ → (List ℕ → ℕ) → Grid
@@ -56,12 +66,6 @@ abbrev pub minus : List ℕ → List ℕ → List ℕ
 minus [] q = []
 minus (i ∷ p) [] = i ∷ p
 minus (i ∷ p) (j ∷ q) = (i - j) ∷ minus p q
-
--- whether the point lies in the box
-abbrev pub is_inside : List ℕ → List ℕ → Bool
-is_inside [] [] = true
-is_inside (e ∷ es) (i ∷ p) = nat_lt i e && is_inside es p
-is_inside _ _ = false
 
 -- whether the point lies in the region of these sizes at these offsets
 abbrev pub lies_in : List ℕ → List ℕ → List ℕ → Bool

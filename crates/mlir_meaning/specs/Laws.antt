@@ -6,15 +6,15 @@ use Rattle.mlir_ir.specs.declared.tree.Op.{Op}
 use Rattle.mlir_ir.specs.declared.tree.Ty.{Ty}
 use Rattle.mlir_ir.specs.declared.tree.ValueId.{ValueId}
 use Rattle.mlir_ir.specs.declared.tree.OpKind.{Fill, Matmul, BatchMatmul, Transpose, Broadcast}
-use Rattle.mlir_meaning.specs.Grids.{Grid, points, place, count_up, at, tabulate, plus, minus, lies_in, InBox, Fits, IsFull, Each}
-use Rattle.mlir_meaning.specs.States.{State, Goes, then_goes, names_of, width_of}
+use Rattle.mlir_meaning.specs.Grids.{Grid, points, place, count_up, outside, at, tabulate, plus, minus, lies_in, InBox, Fits, IsFull, Each}
+use Rattle.mlir_meaning.specs.States.{Datum, State, Goes, then_goes, defines, names_of, width_of}
 use Rattle.mlir_meaning.specs.Structured.{generic_of, rank_of, fill_form, matmul_form, batch_matmul_form, transpose_form, broadcast_form}
 use Rattle.mlir_meaning.specs.Moves.{slice_of, insert_into}
 use Rattle.mlir_meaning.specs.Meaning.{kind_meaning, run, initial_state, meaning}
 use Rattle.mlir_meaning.specs.Contexts.{Context, plug, func_at, Reaches}
 use Rattle.mlir_meaning.specs.Renaming.{renamed_func, reused_after}
 use Rattle.mlir_meaning.specs.Names.{DoesNotName, OpsReadOnly, NamesOnly, IsInjectiveOn, SameOn, AlikeOn, AlikeThrough}
-use Rattle.mlir_meaning.specs.Replacement.{AroundReadsOnly, AfterDefinesOnly, StandsAlone}
+use Rattle.mlir_meaning.specs.Replacement.{AroundReadsOnly, AfterReadsOnly, AfterDefinesOnly, StandsAlone}
 
 -- running operations and then others is running both
 abbrev pub RunsInTurn : Type 0
@@ -63,6 +63,26 @@ ReplacementKeepsMeaning = (N : ℕ → Bool) (f : ℕ → ℕ) (k : Context) (ol
     ((u v : State) → Reaches k old (initial_state func.params inputs) u → SameOn N u v → AlikeThrough N f (run old u) (run new v)) →
     meaning (func_at func (reused_after f k) new) inputs ≡ meaning (func_at func k old) inputs
 
+-- both runs come to the place in one state, so the new operations are compared with the old ones there alone
+abbrev pub OneStateReplacement : Type 0
+OneStateReplacement = (N : ℕ → Bool) (f : ℕ → ℕ) (k : Context) (old new : List Op) (func : FuncShape) (inputs : List TensorShape) →
+    AfterReadsOnly N k → AfterDefinesOnly (StandsAlone N f) k →
+    ((u : State) → Reaches k old (initial_state func.params inputs) u → AlikeThrough N f (run old u) (run new u)) →
+    meaning (func_at func (reused_after f k) new) inputs ≡ meaning (func_at func k old) inputs
+
+-- operations that run as others do in each state that comes to their place may stand there
+abbrev pub InPlaceKeepsMeaning : Type 0
+InPlaceKeepsMeaning = (k : Context) (old new : List Op) (func : FuncShape) (inputs : List TensorShape) →
+    ((u : State) → Reaches k old (initial_state func.params inputs) u → run new u ≡ run old u) →
+    meaning (func_at func k new) inputs ≡ meaning (func_at func k old) inputs
+
+-- an operation that does no more than to define values which nothing around it reads may go
+abbrev pub RemovalKeepsMeaning : Type 0
+RemovalKeepsMeaning = (N : ℕ → Bool) (k : Context) (o : Op) (func : FuncShape) (inputs : List TensorShape) →
+    Each (λ (v : ValueId). N v.0 ≡ false) (names_of o.results) → AroundReadsOnly N k →
+    ((u : State) → Reaches k (o ∷ []) (initial_state func.params inputs) u → (ds : List Datum) × (run (o ∷ []) u ≡ defines o.results u ds)) →
+    meaning (func_at func k []) inputs ≡ meaning (func_at func k (o ∷ [])) inputs
+
 -- NAMED OPERATIONS
 abbrev pub FillIsGeneric : Type 0
 FillIsGeneric = (value outs : ValueId) (rs : List (ValueId × Ty)) (s : State) →
@@ -92,6 +112,10 @@ BroadcastIsGeneric = (source outs : ValueId) (added : List ℕ) (rs : List (Valu
 -- GRIDS
 abbrev pub ReadsTable : Type 0
 ReadsTable = (es p : List ℕ) (f : List ℕ → ℕ) → InBox es p → at (tabulate es f) p ≡ f p
+
+-- at a point outside its box a grid reads no cell
+abbrev pub ReadsNoneOutside : Type 0
+ReadsNoneOutside = (g : Grid) (p : List ℕ) → (InBox g.extents p → ⊥) → at g p ≡ outside
 
 -- a grid with one cell for each point is the table of its elements
 abbrev pub IsItsTable : Type 0

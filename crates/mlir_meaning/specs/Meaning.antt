@@ -5,7 +5,7 @@ use Rattle.std.specs.Int.{int_min}
 use Rattle.affine_maps.specs.Shape.{MapShape}
 use Rattle.affine_maps.specs.Value.{map_value}
 use Rattle.payload_ops.specs.Bits.{signed_of}
-use Rattle.payload_ops.specs.declared.kinds.ElemTy.TheVariants.{Int, Index}
+use Rattle.mlir_base.specs.declared.types.ElemTy.TheVariants.{Int, Index}
 use Rattle.mlir_ir.specs.Shape.{FuncShape, TensorShape, volume}
 use Rattle.mlir_ir.specs.declared.tree.Op.{Op}
 use Rattle.mlir_ir.specs.declared.tree.Ty.{Ty}

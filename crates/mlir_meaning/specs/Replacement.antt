@@ -19,6 +19,12 @@ AroundReadsOnly N (InFor before l inner after) = OpsReadOnly N before × AreIn N
 AroundReadsOnly N (InForall before l inner after) =
     OpsReadOnly N before × AreIn N (forall_operands l.head) × AroundReadsOnly N inner × OpsReadOnly N after
 
+-- what follows the place in its own body reads no value but those of the set. What stands before it, and around its loops, may read any.
+abbrev pub AfterReadsOnly : (ℕ → Bool) → Context → Type 0
+AfterReadsOnly N (Here before after) = OpsReadOnly N after
+AfterReadsOnly N (InFor before l inner after) = AfterReadsOnly N inner
+AfterReadsOnly N (InForall before l inner after) = AfterReadsOnly N inner
+
 -- it holds of each value that is defined after the place, in its own body
 abbrev pub AfterDefinesOnly : (ℕ → Type 0) → Context → Type 0
 AfterDefinesOnly D (Here before after) = OpsDefineOnly D after

@@ -5,7 +5,7 @@ use Rattle.affine_maps.specs.Map.{identity_of}
 use Rattle.affine_maps.specs.declared.map.Expr.{Expr}
 use Rattle.payload_ops.specs.Shape.{PayloadShape}
 use Rattle.payload_ops.specs.Values.{payload_value}
-use Rattle.payload_ops.specs.declared.kinds.ElemTy.TheVariants.{Int}
+use Rattle.mlir_base.specs.declared.types.ElemTy.TheVariants.{Int}
 use Rattle.payload_ops.specs.declared.kinds.BinOp.TheVariants.{Addi, Muli, Andi, Ori}
 use Rattle.payload_ops.specs.declared.step.Arg.{Arg}
 use Rattle.payload_ops.specs.declared.step.Arg.TheVariants.{Input, Out, Step}

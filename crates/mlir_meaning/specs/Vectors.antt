@@ -6,7 +6,7 @@ use Rattle.payload_ops.specs.Combine.{joined}
 use Rattle.payload_ops.specs.Shape.{PayloadShape}
 use Rattle.payload_ops.specs.Values.{payload_value, bit_of}
 use Rattle.payload_ops.specs.declared.kinds.Combiner.{Combiner}
-use Rattle.payload_ops.specs.declared.kinds.ElemTy.TheVariants.{Int}
+use Rattle.mlir_base.specs.declared.types.ElemTy.TheVariants.{Int}
 use Rattle.payload_ops.specs.declared.step.Arg.TheVariants.{Step}
 use Rattle.payload_ops.specs.declared.step.StepOp.{StepOp}
 use Rattle.mlir_meaning.specs.Grids.{Grid, points, at, tabulate, settled, same_point, is_inside, count_up}

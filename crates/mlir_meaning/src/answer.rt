@@ -1,8 +1,8 @@
+use mlir_base::List;
 use mlir_ir::Tensor;
-use payload_ops::List;
 
 /// Why a run gives no tensors.
-#[derive(Clone, Copy, Debug, PartialEq, Eq)]
+#[derive(Clone, Copy, PartialEq, Eq)]
 pub enum Fault {
     /// A division or a remainder by 0, or a signed division of the least value by -1.
     Division,
@@ -12,7 +12,7 @@ pub enum Fault {
 }
 
 /// What a function gives on its inputs.
-#[derive(Debug, Drop)]
+#[derive(Drop)]
 pub enum Answer {
     Results(List<Tensor>),
     Fails(Fault),

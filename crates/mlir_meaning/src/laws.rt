@@ -1,6 +1,7 @@
 ghost use Rattle.mlir_meaning.specs.Laws.{RunsInTurn, RunsAlike, RunsAlikeUnused, RunsKeepOthers, RenamingKeepsMeaning, PlaceRunsAlike, ContextKeepsMeaning, ReplacementKeepsMeaning};
+ghost use Rattle.mlir_meaning.specs.Laws.{OneStateReplacement, InPlaceKeepsMeaning, RemovalKeepsMeaning};
 ghost use Rattle.mlir_meaning.specs.Laws.{FillIsGeneric, MatmulIsGeneric, BatchMatmulIsGeneric, TransposeIsGeneric, BroadcastIsGeneric};
-ghost use Rattle.mlir_meaning.specs.Laws.{ReadsTable, IsItsTable, PointsLieInBox, PointsStandAtTheirPlaces, PlacesCountUp, SlicesCompose};
+ghost use Rattle.mlir_meaning.specs.Laws.{ReadsTable, ReadsNoneOutside, IsItsTable, PointsLieInBox, PointsStandAtTheirPlaces, PlacesCountUp, SlicesCompose};
 ghost use Rattle.mlir_meaning.specs.Laws.{ReadsInsertionInside, ReadsInsertionOutside, SlicesInsertion, DisjointInsertionsSwap};
 
 // The functions here have no code: their contracts are the laws, over the definitions in `specs/`.
@@ -35,6 +36,18 @@ pub fn replacement_keeps_meaning()
     ensures { ReplacementKeepsMeaning }
 {}
 
+/// Operations that have the effect of others in each one state that comes to their place may stand
+/// there, with later uses renamed.
+pub fn one_state_decides()
+    ensures { OneStateReplacement }
+{}
+
+/// Operations that run as others do may stand in their place, and one that nothing reads may go.
+pub fn places_may_change()
+    ensures in_place { InPlaceKeepsMeaning }
+    ensures removal { RemovalKeepsMeaning }
+{}
+
 /// The named structured operations are generics: those of these forms, over the same operands.
 pub fn named_operations_are_generics()
     ensures fill { FillIsGeneric }
@@ -47,6 +60,7 @@ pub fn named_operations_are_generics()
 /// The elements of tables, and the points of a box and their places.
 pub fn grids_are_tables()
     ensures table { ReadsTable }
+    ensures outside { ReadsNoneOutside }
     ensures own_table { IsItsTable }
     ensures inside { PointsLieInBox }
     ensures in_order { PointsStandAtTheirPlaces }

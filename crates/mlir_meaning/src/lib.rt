@@ -19,7 +19,7 @@ mod values;
 pub use answer::{Answer, Fault};
 pub use laws::{
     context_keeps_meaning, grids_are_tables, named_operations_are_generics,
-    numbers_carry_no_meaning, operations_depend_on_what_they_read, operations_run_in_turn,
-    regions_read_and_write, replacement_keeps_meaning,
+    numbers_carry_no_meaning, one_state_decides, operations_depend_on_what_they_read,
+    operations_run_in_turn, places_may_change, regions_read_and_write, replacement_keeps_meaning,
 };
 pub use values::{Datum, Grid, Insertion};

@@ -1,8 +1,8 @@
-use payload_ops::{List, Width};
+use mlir_base::{List, Width};
 
 /// The cells of a tensor or a vector in row-major order, one for each point of the box of these extents
 /// (Builtin manual, "RankedTensorType" and "VectorType").
-#[derive(Debug, Drop)]
+#[derive(Drop)]
 pub struct Grid {
     pub extents: List<u64>,
     pub cells: List<u64>,
@@ -10,7 +10,7 @@ pub struct Grid {
 
 /// What a value holds: an `index` number, the bits of a scalar integer, or the cells of a tensor or a
 /// vector with their width.
-#[derive(Debug, Drop)]
+#[derive(Drop)]
 pub enum Datum {
     Number(i64),
     Bits(u64),
@@ -18,7 +18,7 @@ pub enum Datum {
 }
 
 /// A tile that a `scf.forall` is to insert into its shared output of this position.
-#[derive(Debug, Drop)]
+#[derive(Drop)]
 pub struct Insertion {
     pub output: usize,
     pub tile: Grid,

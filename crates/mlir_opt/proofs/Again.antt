@@ -2,7 +2,7 @@
 use Rattle.std.proofs.Common.{◌≡◌, ℕ, Bool, true, false, cond, List, length, nat_lt, Option, Some, None, Result, Ok, Err, refl, sym, ap, subst, ◌∙◌}
 use Rattle.mlir_file.specs.declared.file.File.{File}
 use Rattle.mlir_ir.specs.declared.tree.OpId.{OpId}
-use Rattle.mlir_ir.specs.declared.tree.Which.TheVariants.{Bytes}
+use Rattle.mlir_base.specs.declared.limit.Which.TheVariants.{Bytes}
 use Rattle.mlir_lex.specs.declared.read_error.ReadError.{ReadError}
 use Rattle.mlir_read.specs.Reading.{StandsFor, reading}
 use Rattle.mlir_read.proofs.Whole.{found_in}

@@ -3,7 +3,7 @@ use Rattle.std.proofs.Common.{◌≡◌, ◌∙◌, ℕ, ◌+◌, ◌<◌, ◌�
 use Rattle.std.proofs.lemmas.List.{length-replicate}
 use Rattle.std.specs.Prelude.{IsSome}
 use Rattle.std.specs.declared.alloc.Global.{Global}
-use Rattle.mlir_ir.specs.declared.tree.Which.TheVariants.{Bytes}
+use Rattle.mlir_base.specs.declared.limit.Which.TheVariants.{Bytes}
 use Rattle.mlir_streams.specs.Loops.{ReadsWhole}
 use Rattle.mlir_streams.specs.Shelves.{Files, OpenLeaves}
 use Rattle.mlir_streams.specs.declared.reading.FetchError.TheVariants as fetch

@@ -2,7 +2,7 @@
 use Rattle.std.proofs.Common.{◌≡◌, ◌∙◌, ℕ, List, false, Option, Some, None, is_some, Result, Ok, Err, sym, ap, subst, refl, inl, inr, Vec}
 use Rattle.std.specs.declared.alloc.Global.{Global}
 use Rattle.std.proofs.KnownBytes.{Appends-nil}
-use Rattle.mlir_ir.specs.declared.tree.Which.TheVariants.{Bytes}
+use Rattle.mlir_base.specs.declared.limit.Which.TheVariants.{Bytes}
 use Rattle.mlir_streams.specs.Shelves.{Files}
 use Rattle.mlir_opt.specs.Answer.{asked_file, output_of, verdict_on, verdict}
 use Rattle.mlir_opt.specs.Causes.{IsVerdict}

@@ -1,6 +1,6 @@
 -- The answer to a command line over files.
 use Rattle.std.specs.Prelude.{ℕ, List, [], Bool, true, false, nat_lt, length, is_some, if◌then◌else◌, option_and_then, Option, Some, None, Result, Ok, Err}
-use Rattle.mlir_ir.specs.declared.tree.Which.TheVariants.{Bytes}
+use Rattle.mlir_base.specs.declared.limit.Which.TheVariants.{Bytes}
 use Rattle.mlir_streams.specs.Shelves.{Files}
 use Rattle.mlir_words.specs.Request.{RequestShape, sample_of, module_of, SourceShape, standard_input, named_file, TaskShape, print, lowering, running, request_of}
 use Rattle.mlir_opt.specs.Processed.{processed}

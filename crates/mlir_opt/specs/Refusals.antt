@@ -1,7 +1,7 @@
 -- The lines and the statuses of refusals.
 use Rattle.std.specs.Prelude.{ℕ, List, [], ◌∷◌, ◌++◌, codes, decimal}
-use Rattle.mlir_ir.specs.declared.tree.Which.{Which}
-use Rattle.mlir_ir.specs.declared.tree.Which.TheVariants as which
+use Rattle.mlir_base.specs.declared.limit.Which.{Which}
+use Rattle.mlir_base.specs.declared.limit.Which.TheVariants as which
 use Rattle.mlir_opt.specs.declared.refusal.Fault.{Fault}
 use Rattle.mlir_opt.specs.declared.refusal.Fault.TheVariants as fault
 use Rattle.mlir_verify.specs.declared.rule.Rule.{Rule}

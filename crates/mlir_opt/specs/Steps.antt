@@ -3,7 +3,7 @@ use Rattle.std.specs.Prelude.{◌≡◌, ◌⊎◌, ℕ, List, [], ⊤, Option, 
 use Rattle.std.specs.Borrow.{Bor}
 use Rattle.std.specs.declared.alloc.Global.{Global}
 use Rattle.std.specs.Io.KnownBytes.{Appends}
-use Rattle.mlir_ir.specs.declared.tree.Which.TheVariants.{Bytes}
+use Rattle.mlir_base.specs.declared.limit.Which.TheVariants.{Bytes}
 use Rattle.mlir_streams.specs.Causes.{Rose}
 use Rattle.mlir_streams.specs.Loops.{AppendsPart}
 use Rattle.mlir_streams.specs.Shelves.{Files}

@@ -10,7 +10,7 @@ ghost use Rattle.mlir_opt.specs.Steps.{AsksFor, IsInput, InputCause, InputAbsenc
 use crate::processing::process;
 use crate::refusal::{FileError, status};
 use crate::{Refusal, TextError};
-use mlir_ir::Which;
+use mlir_base::Which;
 use mlir_streams::{FetchError, OpenError, Shelf, Sink, WriteError, read_whole, write_whole};
 use mlir_words::{Request, Source, Task, WordsError, read_words};
 use std::alloc::Global;

@@ -1,7 +1,7 @@
 ghost use Rattle.std.specs.Prelude.{◌≡◌, Some};
 ghost use Rattle.mlir_opt.specs.Refusals.{fault_word, limit_word, message_of, rule_word, status_of};
 
-use mlir_ir::Which;
+use mlir_base::Which;
 use mlir_verify::Rule;
 use std::fmt;
 

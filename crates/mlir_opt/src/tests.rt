@@ -1,7 +1,6 @@
 use crate::{Fault, Refusal, Rule, mlir_opt, place_after, process};
-use mlir_ir::Which;
+use mlir_base::{List, Memory, Name, Which};
 use mlir_streams::{CleanShelf, CleanSink, MemShelf, MemSink};
-use payload_ops::{List, Memory, Name};
 use std::alloc::{AllocError, Global};
 use std::test::Fail;
 

@@ -6,13 +6,14 @@ use Rattle.std.specs.Option.{option_map}
 use Rattle.std.specs.Str.{bytes_eq}
 use Rattle.std.proofs.lemmas.List.{append-nil}
 use Rattle.std.proofs.lemmas.Bool.{and_from, and_parts, eq-eqb, eqb-true}
-use Rattle.payload_ops.specs.declared.kinds.ElemTy.{ElemTy}
-use Rattle.payload_ops.specs.declared.kinds.ElemTy.TheVariants.{Int, Index}
+use Rattle.mlir_base.specs.declared.types.ElemTy.{ElemTy}
+use Rattle.mlir_base.specs.declared.types.ElemTy.TheVariants.{Int, Index}
 use Rattle.payload_ops.specs.declared.step.Arg.{Arg}
 use Rattle.payload_ops.specs.declared.step.Arg.TheVariants as args
 use Rattle.payload_ops.specs.declared.step.StepOp.TheVariants as ops
 use Rattle.payload_ops.specs.declared.step.PayloadStep.{PayloadStep}
-use Rattle.payload_ops.specs.Payload.{is_elem, is_narrower, is_cast, has_type, have_one_type, is_widening, is_narrowing, arg_type, term_fits, op_fits, steps_fit, IsPayload}
+use Rattle.mlir_base.specs.Types.{is_elem}
+use Rattle.payload_ops.specs.Payload.{is_narrower, is_cast, has_type, have_one_type, is_widening, is_narrowing, arg_type, term_fits, op_fits, steps_fit, IsPayload}
 use Rattle.text_format.specs.Token.{TokenShape}
 use Rattle.text_format.specs.Types.{element_of}
 use Rattle.mlir_syntax.specs.declared.tree.payloads.NextArg.{NextArg}
@@ -24,7 +25,7 @@ use Rattle.mlir_syntax.specs.declared.tree.steps.ApplyOperand.{ApplyOperand}
 use Rattle.mlir_syntax.specs.declared.tree.steps.ApplyStep.{ApplyStep}
 use Rattle.mlir_syntax.specs.declared.tree.steps.StepOperation.{StepOperation}
 use Rattle.mlir_syntax.specs.declared.tree.steps.StepOperation.TheVariants as operations
-use Rattle.mlir_ir.specs.declared.tree.Which.TheVariants as limits
+use Rattle.mlir_base.specs.declared.limit.Which.TheVariants as limits
 use Rattle.mlir_lex.specs.declared.fault.Fault.{Fault}
 use Rattle.mlir_lex.specs.declared.fault.Fault.TheVariants.{Limit, TypeDiffers, Number}
 use Rattle.mlir_scope.specs.declared.words.Cast.{Cast}

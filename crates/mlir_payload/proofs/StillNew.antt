@@ -2,20 +2,21 @@
 use Rattle.std.proofs.Common.{◌≡◌, ℕ, ◌+◌, Bool, true, false, cond, List, [], ◌∷◌, ◌++◌, length, Option, Some, None, Result, Ok, refl, sym, ap, subst, ◌∙◌, nat_lt, nat_le, is_none}
 use Rattle.std.specs.Str.{bytes_eq}
 use Rattle.std.proofs.lemmas.Slice.Eq.{bytes_eq-Decides}
-use Rattle.payload_ops.specs.declared.kinds.ElemTy.{ElemTy}
-use Rattle.payload_ops.specs.declared.kinds.ElemTy.TheVariants.{Int, Index}
+use Rattle.mlir_base.specs.declared.types.ElemTy.{ElemTy}
+use Rattle.mlir_base.specs.declared.types.ElemTy.TheVariants.{Int, Index}
 use Rattle.payload_ops.specs.declared.step.Arg.{Arg}
 use Rattle.payload_ops.specs.declared.step.Arg.TheVariants as args
 use Rattle.payload_ops.specs.declared.step.StepOp.TheVariants as ops
 use Rattle.payload_ops.specs.declared.step.PayloadStep.{PayloadStep}
-use Rattle.payload_ops.specs.Payload.{is_elem, is_cast}
+use Rattle.mlir_base.specs.Types.{is_elem}
+use Rattle.payload_ops.specs.Payload.{is_cast}
 use Rattle.text_format.specs.Token.{TokenShape}
 use Rattle.mlir_syntax.specs.declared.tree.steps.Conversion.{Conversion}
 use Rattle.mlir_syntax.specs.declared.tree.steps.ApplyOperand.{ApplyOperand}
 use Rattle.mlir_syntax.specs.declared.tree.steps.ApplyStep.{ApplyStep}
 use Rattle.mlir_syntax.specs.declared.tree.steps.StepOperation.{StepOperation}
 use Rattle.mlir_syntax.specs.declared.tree.steps.StepOperation.TheVariants as operations
-use Rattle.mlir_ir.specs.declared.tree.Which.TheVariants as limits
+use Rattle.mlir_base.specs.declared.limit.Which.TheVariants as limits
 use Rattle.mlir_lex.specs.declared.fault.Fault.{Fault}
 use Rattle.mlir_lex.specs.declared.fault.Fault.TheVariants.{Limit, Twice, TypeDiffers, Number}
 use Rattle.mlir_payload.specs.declared.inside.Inside.{Inside}

@@ -1,6 +1,6 @@
 -- Payloads of linalg.generic (MLIR Linalg dialect, "linalg.generic": the block has an argument for each operand and yields the output's element).
 use Rattle.std.specs.Prelude.{ℕ, suc, List, [], ◌∷◌, ◌++◌, Result, Ok, Err, Option, Some, None, if◌then◌else◌, nat_lt}
-use Rattle.payload_ops.specs.declared.kinds.ElemTy.{ElemTy}
+use Rattle.mlir_base.specs.declared.types.ElemTy.{ElemTy}
 use Rattle.payload_ops.specs.declared.step.Arg.{Arg}
 use Rattle.payload_ops.specs.declared.step.Arg.TheVariants as args
 use Rattle.payload_ops.specs.declared.step.PayloadStep.{PayloadStep}

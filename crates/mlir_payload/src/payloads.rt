@@ -7,10 +7,11 @@ ghost use Rattle.mlir_payload.specs.Payload.{locals_of, arg_of, more_args, block
 
 use crate::inside::Inside;
 use crate::steps::{argument, fresh_in, read_steps};
+use mlir_base::{ElemTy, List, Memory};
 use mlir_lex::{Fault, Refused};
 use mlir_scope::{Aliases, Meaning, Names, same_elem};
 use mlir_syntax::{BlockArgs, NextArg, Region};
-use payload_ops::{Arg, ElemTy, List, Memory, Payload, PayloadStep, payload};
+use payload_ops::{Arg, Payload, PayloadStep, payload};
 use std::alloc::Global;
 use text_format::Token;
 

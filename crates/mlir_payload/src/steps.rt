@@ -2,8 +2,9 @@
 
 ghost use Rattle.std.specs.Prelude.{◌≡◌, ◌<◌, ◌≤◌, ◌+◌, ◌++◌, None, Some, length, true, OnOk, OnErr, IfOk, option_copied};
 ghost use Rattle.affine_maps.specs.Map.{terms_fit};
-ghost use Rattle.payload_ops.specs.Payload.{is_elem, is_narrower, is_cast};
-ghost use Rattle.payload_ops.specs.declared.kinds.ElemTy.TheVariants.{Int};
+ghost use Rattle.mlir_base.specs.Types.{is_elem};
+ghost use Rattle.payload_ops.specs.Payload.{is_narrower, is_cast};
+ghost use Rattle.mlir_base.specs.declared.types.ElemTy.TheVariants.{Int};
 ghost use Rattle.mlir_payload.specs.declared.inside.Inside.{Inside as Insider};
 ghost use Rattle.mlir_scope.specs.declared.names.Meaning.TheVariants.{Constant};
 ghost use Rattle.mlir_lex.specs.Chain.{Agree, Leaves, Becomes, thread};
@@ -12,7 +13,7 @@ ghost use Rattle.mlir_payload.specs.Steps.{fresh_in, with_step, constant_step, b
 
 use crate::inside::Inside;
 use affine_maps::{AffineMap, Expr};
-use mlir_ir::Which;
+use mlir_base::{ElemTy, List, Memory, Which};
 use mlir_lex::{Fault, Refused};
 use mlir_scope::{
     Aliases, Cast, Meaning, Names, binary_named, cast_named, digits_value, elem_at, fresh, one_bit,
@@ -22,7 +23,7 @@ use mlir_syntax::{
     ApplyOperand, ApplyStep, ApplySymbols, BinaryStep, CompareStep, Conversion, SelectStep, Step,
     StepOperation,
 };
-use payload_ops::{Arg, ElemTy, List, Memory, PayloadStep, StepOp};
+use payload_ops::{Arg, PayloadStep, StepOp};
 use std::alloc::Global;
 use text_format::Token;
 

@@ -2,15 +2,16 @@
 use Rattle.std.proofs.Common.{◌≡◌, ◌≤◌, ℕ, ◌+◌, suc, ℤ, true, ◌&&◌, List, [], ◌∷◌, ◌++◌, length, Option, refl, subst, arith, Some, None, IsSome, IfSome, ap, ◌∙◌}
 use Rattle.std.specs.List.{list_all}
 use Rattle.std.proofs.lemmas.Bool.{and_parts, and_from, le-leb, lt-ltb}
-use Rattle.payload_ops.specs.Numbers.{is_in_range, is_coefficient}
-use Rattle.payload_ops.specs.declared.kinds.ElemTy.{ElemTy}
-use Rattle.payload_ops.specs.declared.kinds.ElemTy.TheVariants.{Index as IndexType}
+use Rattle.mlir_base.specs.Numbers.{is_in_range, is_coefficient}
+use Rattle.mlir_base.specs.declared.types.ElemTy.{ElemTy}
+use Rattle.mlir_base.specs.declared.types.ElemTy.TheVariants.{Index as IndexType}
 use Rattle.payload_ops.specs.declared.step.Arg.{Arg}
 use Rattle.payload_ops.specs.declared.step.StepOp.{StepOp}
 use Rattle.payload_ops.specs.declared.step.StepOp.TheVariants as ops
 use Rattle.payload_ops.specs.declared.step.PayloadStep.{PayloadStep}
 use Rattle.payload_ops.specs.Shape.{PayloadShape}
-use Rattle.payload_ops.specs.Payload.{is_elem, arg_type, has_type, term_fits, op_fits, steps_fit, payload_fits}
+use Rattle.mlir_base.specs.Types.{is_elem}
+use Rattle.payload_ops.specs.Payload.{arg_type, has_type, term_fits, op_fits, steps_fit, payload_fits}
 use Rattle.affine_maps.specs.declared.map.Expr.{Expr}
 use Rattle.affine_maps.specs.Shape.{MapShape}
 use Rattle.affine_maps.specs.Map.{terms_fit, IsMap}

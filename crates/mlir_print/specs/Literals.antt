@@ -1,10 +1,10 @@
 -- Integer literals as they are written (MLIR Builtin dialect, "IntegerAttr"): signed decimals, and truth values without a type.
 use Rattle.std.specs.Prelude.{ℕ, zero, suc, ℤ, pos, negsuc, Bool, true, false, List, ◌++◌, Some, None, codes, decimal}
 use Rattle.std.specs.Fmt.{signed_decimal}
-use Rattle.payload_ops.specs.declared.kinds.ElemTy.{ElemTy}
-use Rattle.payload_ops.specs.declared.kinds.ElemTy.TheVariants.{Int}
+use Rattle.mlir_base.specs.declared.types.ElemTy.{ElemTy}
+use Rattle.mlir_base.specs.declared.types.ElemTy.TheVariants.{Int}
 use Rattle.payload_ops.specs.Bits.{signed_of}
-use Rattle.payload_ops.specs.Payload.{bits_of, is_elem}
+use Rattle.mlir_base.specs.Types.{bits_of, is_elem}
 use Rattle.text_format.specs.declared.class.Class.TheVariants.{Exactly, Number, Boolean, ElementType}
 use Rattle.text_format.specs.declared.front.Kind.TheVariants as tokens
 use Rattle.text_format.specs.declared.lexeme.Lexeme.TheVariants.{Colon, Minus}

@@ -2,7 +2,7 @@
 use Rattle.std.specs.Prelude.{ℕ, zero, suc, ◌+◌, ℤ, Bool, true, ◌&&◌, List, [], ◌∷◌, ◌++◌, map, drop, length, if◌then◌else◌, codes, position, unwrap_or}
 use Rattle.std.specs.List.{list_all, list_any}
 use Rattle.std.specs.Str.{bytes_eq}
-use Rattle.payload_ops.specs.Numbers.{is_in_range, is_coefficient}
+use Rattle.mlir_base.specs.Numbers.{is_in_range, is_coefficient}
 use Rattle.payload_ops.specs.declared.step.Arg.{Arg}
 use Rattle.payload_ops.specs.declared.step.StepOp.{StepOp}
 use Rattle.payload_ops.specs.declared.step.StepOp.TheVariants as ops

@@ -1,6 +1,6 @@
 -- The bytes of operations, in the order in which they are written.
 use Rattle.std.specs.Prelude.{ℕ, List, [], ◌∷◌, ◌++◌, codes}
-use Rattle.payload_ops.specs.declared.kinds.ElemTy.{ElemTy}
+use Rattle.mlir_base.specs.declared.types.ElemTy.{ElemTy}
 use Rattle.payload_ops.specs.Shape.{PayloadShape}
 use Rattle.affine_maps.specs.Shape.{MapShape}
 use Rattle.mlir_ir.specs.declared.tree.Ty.{Ty}

@@ -1,6 +1,6 @@
 -- The bytes of a payload, in the order in which they are written.
 use Rattle.std.specs.Prelude.{ℕ, ◌+◌, ℤ, List, [], ◌∷◌, ◌++◌, length, codes, decimal}
-use Rattle.payload_ops.specs.declared.kinds.ElemTy.{ElemTy}
+use Rattle.mlir_base.specs.declared.types.ElemTy.{ElemTy}
 use Rattle.payload_ops.specs.declared.kinds.BinOp.{BinOp}
 use Rattle.payload_ops.specs.declared.kinds.Predicate.{Predicate}
 use Rattle.payload_ops.specs.declared.step.Arg.{Arg}

@@ -1,6 +1,6 @@
 -- Payloads as they are written (MLIR Linalg dialect, "linalg.generic").
 use Rattle.std.specs.Prelude.{ℕ, ◌+◌, ℤ, List, [], ◌∷◌, map, length, Option, Some, None, codes, decimal}
-use Rattle.payload_ops.specs.declared.kinds.ElemTy.{ElemTy}
+use Rattle.mlir_base.specs.declared.types.ElemTy.{ElemTy}
 use Rattle.payload_ops.specs.declared.kinds.BinOp.{BinOp}
 use Rattle.payload_ops.specs.declared.kinds.Predicate.{Predicate}
 use Rattle.payload_ops.specs.declared.step.Arg.{Arg}

@@ -1,7 +1,7 @@
 -- Types as they are written (MLIR Builtin dialect, "RankedTensorType", "VectorType" and "IntegerType").
 use Rattle.std.specs.Prelude.{ℕ, List, [], ◌∷◌, ◌++◌, codes, decimal}
-use Rattle.payload_ops.specs.declared.kinds.ElemTy.{ElemTy}
-use Rattle.payload_ops.specs.declared.kinds.ElemTy.TheVariants.{Int, Index}
+use Rattle.mlir_base.specs.declared.types.ElemTy.{ElemTy}
+use Rattle.mlir_base.specs.declared.types.ElemTy.TheVariants.{Int, Index}
 use Rattle.text_format.specs.declared.front.Kind.{Kind}
 use Rattle.text_format.specs.declared.front.Kind.TheVariants.{Word, Shaped}
 use Rattle.mlir_ir.specs.declared.tree.Ty.{Ty}

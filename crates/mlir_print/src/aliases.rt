@@ -10,7 +10,7 @@ use affine_maps::AffineMap;
 use affine_text::map_text;
 use indexmap::IndexSet;
 use itoa::Buffer;
-use payload_ops::Memory;
+use mlir_base::Memory;
 use std::alloc::Global;
 use std::marker::Model;
 
@@ -144,7 +144,7 @@ pub fn add_maps(aliases: &mut Aliases, maps: &[AffineMap]) -> Result<(), Memory>
 mod tests {
     use super::{Aliases, add_maps, write_uses};
     use affine_maps::{AffineMap, Expr};
-    use payload_ops::{List, Memory};
+    use mlir_base::{List, Memory};
     use std::alloc::Global;
 
     fn constant_map(alloc: Global, constant: i64) -> Result<AffineMap, Memory> {

@@ -9,8 +9,8 @@ ghost use Rattle.mlir_print.specs.OperationParts.{scalar_text_if, dense_text, co
 
 use crate::literals::{number_of, write_literal, write_signed, write_truth};
 use crate::types::{write_type, write_unbuilt};
+use mlir_base::{ElemTy, Memory, Width};
 use mlir_ir::{Extent, Ty};
-use payload_ops::{ElemTy, Memory, Width};
 
 /// A value of the width: a truth value, or a signed decimal.
 #[tactic(auto, using(crate::proofs::Nested::number_is, crate::proofs::Nested::truth_is))]

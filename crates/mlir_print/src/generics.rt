@@ -10,8 +10,9 @@ use crate::payloads::write_region;
 use crate::types::write_type;
 use crate::values::{write_types, write_value, write_value_type, write_values};
 use affine_maps::AffineMap;
+use mlir_base::Memory;
 use mlir_ir::{Iter, Ty, ValueId};
-use payload_ops::{Memory, Payload};
+use payload_ops::Payload;
 
 fn write_ins(out: &mut Vec<u8>, names: &Names, ins: &[ValueId]) -> Result<(), Memory>
     ensures { OnOk result (out.new.items ≡ out.old.items ++ ins_text names.now.rows ins.now) }

@@ -8,7 +8,8 @@ ghost use Rattle.mlir_print.specs.MapParts.{with_texts};
 
 use crate::aliases::{Aliases, add_maps};
 use affine_maps::{AffineMap, Expr};
-use payload_ops::{Arg, List, Memory, Payload, PayloadStep, StepOp};
+use mlir_base::{List, Memory};
+use payload_ops::{Arg, Payload, PayloadStep, StepOp};
 use std::alloc::Global;
 
 /// The coefficients of the terms, each with the number of its dimension.
@@ -106,7 +107,8 @@ mod tests {
     use crate::aliases::Aliases;
     use crate::payloads::write_region;
     use affine_maps::{AffineMap, Expr};
-    use payload_ops::{Arg, ElemTy, List, Memory, Payload, PayloadStep, StepOp, Width, payload};
+    use mlir_base::{ElemTy, List, Memory, Width};
+    use payload_ops::{Arg, Payload, PayloadStep, StepOp, payload};
     use std::alloc::Global;
 
     fn indexed(op: StepOp) -> PayloadStep {

@@ -3,13 +3,14 @@
 ghost use Rattle.std.specs.Prelude.{◌≡◌, ◌++◌, OnOk};
 ghost use Rattle.std.specs.Fmt.{signed_decimal};
 ghost use Rattle.payload_ops.specs.Bits.{signed_of};
-ghost use Rattle.payload_ops.specs.Payload.{bits_of, is_elem};
-ghost use Rattle.payload_ops.specs.declared.kinds.ElemTy.TheVariants.{Int};
+ghost use Rattle.mlir_base.specs.Types.{bits_of, is_elem};
+ghost use Rattle.mlir_base.specs.declared.types.ElemTy.TheVariants.{Int};
 ghost use Rattle.mlir_print.specs.Literals.{truth_text, literal_text};
 
 use crate::types::write_elem;
 use itoa::Buffer;
-use payload_ops::{ElemTy, Memory, signed, wrap};
+use mlir_base::{ElemTy, Memory};
+use payload_ops::{signed, wrap};
 
 pub fn write_signed(out: &mut Vec<u8>, number: i64) -> Result<(), Memory>
     ensures { OnOk result (out.new.items ≡ out.old.items ++ signed_decimal number) }

@@ -4,8 +4,8 @@ ghost use Rattle.std.specs.Prelude.{◌≡◌, ◌<◌, ◌≤◌, ◌^◌, ◌�
 ghost use Rattle.mlir_print.specs.Names.{look, nothing, row_of, with_argument, with_result};
 ghost use Rattle.mlir_print.specs.declared.names.Given.TheVariants as given;
 
+use mlir_base::Memory;
 use mlir_ir::{Ty, ValueId};
-use payload_ops::Memory;
 use std::alloc::Global;
 use std::collections::HashMap;
 use std::marker::Model;

@@ -14,8 +14,8 @@ use crate::structured::{
 };
 use crate::types::{write_name, write_type, write_unbuilt};
 use crate::values::{write_types, write_values};
+use mlir_base::Memory;
 use mlir_ir::{Op, OpKind, Ty, ValueId};
-use payload_ops::Memory;
 
 fn write_empty(out: &mut Vec<u8>, sizes: &[ValueId], ty: &Ty) -> Result<(), Memory>
     ensures { OnOk result (out.new.items ≡ out.old.items ++ empty_text_if sizes.now ty.now) }

@@ -18,8 +18,9 @@ use crate::literals::write_literal;
 use crate::names::Given;
 use crate::types::{write_elem, write_name, write_number, write_unbuilt};
 use affine_maps::AffineMap;
+use mlir_base::{ElemTy, Memory};
 use mlir_scope::{Cast, binary_text, cast_text, predicate_text};
-use payload_ops::{Arg, BinOp, ElemTy, Memory, Payload, PayloadStep, Predicate, StepOp};
+use payload_ops::{Arg, BinOp, Payload, PayloadStep, Predicate, StepOp};
 
 /// A payload, where the numbers of its arguments and of its results begin, and the aliases of maps.
 #[derive(Drop)]

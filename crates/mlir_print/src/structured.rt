@@ -7,8 +7,8 @@ use crate::generics::write_outs;
 use crate::names::Names;
 use crate::types::{write_number, write_type};
 use crate::values::{write_value, write_value_type};
+use mlir_base::Memory;
 use mlir_ir::{Ty, ValueId};
-use payload_ops::Memory;
 
 /// `ins(%a : T)`
 fn write_source(out: &mut Vec<u8>, names: &Names, source: ValueId) -> Result<(), Memory>

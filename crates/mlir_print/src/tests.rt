@@ -1,8 +1,9 @@
 use super::*;
 use affine_maps::{AffineMap, Expr};
+use mlir_base::{ElemTy, List, Memory, Name, Width};
 use mlir_file::File;
 use mlir_ir::{Extent, Func, Iter, Module, Op, OpId, OpKind, Ty, ValueId};
-use payload_ops::{Arg, BinOp, ElemTy, List, Memory, Name, PayloadStep, StepOp, Width, payload};
+use payload_ops::{Arg, BinOp, PayloadStep, StepOp, payload};
 use script_text::{HandleId, Script, Step, StepKind};
 use std::alloc::Global;
 

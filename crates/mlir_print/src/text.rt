@@ -11,9 +11,9 @@ use crate::linear::add_generic;
 use crate::names::{Given, Names};
 use crate::operations::{define, write_line};
 use crate::types::{write_name, write_type};
+use mlir_base::{List, Memory};
 use mlir_file::File;
 use mlir_ir::{Func, Op, OpKind, Ty, ValueId};
-use payload_ops::{List, Memory};
 use script_text::{Script, write_script};
 use std::alloc::Global;
 

@@ -7,8 +7,8 @@ ghost use Rattle.text_format.specs.Writers.{unbuilt_text};
 
 use crate::names::Given;
 use itoa::Buffer;
+use mlir_base::{ElemTy, Memory};
 use mlir_ir::{Extent, Ty};
-use payload_ops::{ElemTy, Memory};
 
 pub fn write_number(out: &mut Vec<u8>, number: u32) -> Result<(), Memory>
     ensures { OnOk result (out.new.items ≡ out.old.items ++ decimal number) }

@@ -6,8 +6,8 @@ ghost use Rattle.mlir_print.specs.Returns.{values_text, types_text};
 
 use crate::names::Names;
 use crate::types::{write_name, write_type, write_unbuilt};
+use mlir_base::Memory;
 use mlir_ir::ValueId;
-use payload_ops::Memory;
 
 pub fn write_value(out: &mut Vec<u8>, names: &Names, value: ValueId) -> Result<(), Memory>
     ensures { OnOk result (out.new.items ≡ out.old.items ++ name_in names.now.rows value) }

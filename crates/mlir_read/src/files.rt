@@ -6,12 +6,12 @@ ghost use Rattle.mlir_lex.specs.Chain.{Agree, Becomes, Leaves, Adds};
 ghost use Rattle.mlir_read.specs.Resolve.{alias_of, is_closed, function_stage, is_none_of, is_script_alone, is_script_module, module_stage, functions_of, with_script, may_hold, rest_of, behind_functions, outer_of, has_attributes, no_function, alone_of, later_of, at_stage, item_of, items_of, start, resolve, IsFileSound};
 
 use crate::functions::read_function;
+use mlir_base::List;
 use mlir_file::File;
 use mlir_ir::{Func, Module};
 use mlir_lex::{Fault, Refused};
 use mlir_scope::{Aliases, NameList, read_alias};
 use mlir_syntax::{AliasLine, Enclosed, Function, Item, ModuleAttributes, ModuleRest, Text};
-use payload_ops::List;
 use script_read::{Script, resolve_script};
 use script_syntax::Sequence;
 use std::alloc::Global;

@@ -8,7 +8,8 @@ ghost use Rattle.mlir_scope.specs.Scope.{IsSound, IsOpening};
 ghost use Rattle.mlir_read.specs.Resolve.{is_ascii, symbol_of, name_of, unknown, result_at, results_from, results_of, word_in, value_ids, more_return_types, returned_of, return_of, opened, body_of, function_of, IsFileSound};
 
 use crate::files::FileScope;
-use mlir_ir::{Func, Op, OpId, OpKind, Ty, ValueId, Which};
+use mlir_base::{List, Name, Which};
+use mlir_ir::{Func, Op, OpId, OpKind, Ty, ValueId};
 use mlir_lex::{Fault, Refused};
 use mlir_resolve::{read_statements, room};
 use mlir_scope::{Aliases, NameList, Names, Scope, read_params, type_at, typed_as, value_id};
@@ -16,7 +17,6 @@ use mlir_syntax::{
     Function, NextValue, ResultTypes, ReturnName, ReturnType, Returned, ReturnedValues,
     SeveralResults,
 };
-use payload_ops::{List, Name};
 use std::alloc::Global;
 use text_format::Token;
 

@@ -1,7 +1,7 @@
 //! Payloads that are read, and payloads with one fault each.
 
 use super::*;
-use mlir_ir::Which;
+use mlir_base::Which;
 use std::alloc::Global;
 use std::test::*;
 

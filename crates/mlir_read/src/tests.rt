@@ -1,7 +1,8 @@
 //! The row's module, texts that are read, and texts with one fault each.
 
 use super::*;
-use mlir_ir::{OpKind, Which};
+use mlir_base::Which;
+use mlir_ir::OpKind;
 use std::alloc::Global;
 use std::test::*;
 

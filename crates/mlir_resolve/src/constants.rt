@@ -6,11 +6,11 @@ ghost use Rattle.mlir_lex.specs.Chain.{Agree};
 ghost use Rattle.mlir_resolve.specs.Constants.{constant, of_integer, scalar_of, elements_width, cells_in, dense_of, constant_of, result_meaning};
 
 use crate::dense::{Mark, check_nested, read_cells, read_elements, shape_marks};
+use mlir_base::{ElemTy, List, Memory, Width};
 use mlir_ir::{OpKind, Ty};
 use mlir_lex::{Fault, Refused};
 use mlir_scope::{Meaning, copy_type, read_literal, type_at};
 use mlir_syntax::{DenseLiteral, Literal, ScalarLiteral};
-use payload_ops::{ElemTy, List, Memory, Width};
 use std::alloc::Global;
 use text_format::{Token, ranked_of, width_of};
 

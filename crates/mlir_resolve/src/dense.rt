@@ -6,11 +6,12 @@ ghost use Rattle.mlir_lex.specs.Chain.{Agree};
 ghost use Rattle.mlir_resolve.specs.Constants.{mark_of, with_item, with_close, with_comma, with_first, with_number, with_next, behind, may_end, nested_from, place_behind, bit_of, truth_in, number_in, elements_from, is_shape_mark, shape_marks, behind_element, behind_open, behind_close, behind_nested, is_end, cells_by};
 ghost use Rattle.mlir_scope.specs.Types.{elements};
 
+use mlir_base::{ElemTy, List, Memory, Width};
 use mlir_ir::Extent;
 use mlir_lex::{Fault, Refused};
 use mlir_scope::{counted, digits_value, most_of, signed_by};
 use mlir_syntax::DensePiece;
-use payload_ops::{ElemTy, List, Memory, Width, wrap};
+use payload_ops::wrap;
 use std::alloc::Global;
 use text_format::Token;
 

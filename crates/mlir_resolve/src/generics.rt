@@ -8,14 +8,15 @@ ghost use Rattle.mlir_payload.specs.Payload.{payload_of};
 ghost use Rattle.mlir_resolve.specs.Generics.{iterator_of, iterators_from, inputs_of, more_types, input_types, typed_inputs, typed_output, operands_of, generic_with, generic_of};
 
 use affine_maps::AffineMap;
-use mlir_ir::{Iter, OpKind, Ty, ValueId, Which};
+use mlir_base::{ElemTy, List, Memory, Which};
+use mlir_ir::{Iter, OpKind, Ty, ValueId};
 use mlir_lex::{Fault, Refused};
 use mlir_payload::read_payload;
 use mlir_scope::{Aliases, Names, operand, read_map, type_at, typed_as};
 use mlir_syntax::{
     Generic, Inputs, IteratorType, MapUse, NextInput, NextType, Operands, Output, Region,
 };
-use payload_ops::{ElemTy, List, Memory, Payload};
+use payload_ops::Payload;
 use std::alloc::Global;
 use text_format::Token;
 

@@ -14,11 +14,11 @@ use crate::generics::read_generic;
 use crate::structured::{
     read_batch_matmul, read_broadcast, read_fill, read_matmul, read_transpose,
 };
-use mlir_ir::{Op, OpId, OpKind, Ty, ValueId, Which};
+use mlir_base::{List, Memory, Which};
+use mlir_ir::{Op, OpId, OpKind, Ty, ValueId};
 use mlir_lex::{Fault, Refused};
 use mlir_scope::{Aliases, Names, Scope, fresh, type_at};
 use mlir_syntax::{Empty, Operation, Statement};
-use payload_ops::{List, Memory};
 use std::alloc::Global;
 use text_format::Token;
 

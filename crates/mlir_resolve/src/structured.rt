@@ -5,6 +5,7 @@ ghost use Rattle.mlir_ir.specs.declared.tree.OpKind.TheVariants as kinds;
 ghost use Rattle.mlir_lex.specs.Chain.{Agree, each};
 ghost use Rattle.mlir_resolve.specs.Structured.{is_axis, axis_of, typed_id, output_of, fill_of, factors_of, product_of, moved_of, transpose_of, broadcast_of};
 
+use mlir_base::List;
 use mlir_ir::{OpKind, Ty, ValueId};
 use mlir_lex::{Fault, Refused};
 use mlir_scope::{
@@ -13,7 +14,6 @@ use mlir_scope::{
 use mlir_syntax::{
     BatchMatmul, Broadcast, Factors, Fill, Matmul, Output, SignedNumber, SourceAndOutput, Transpose,
 };
-use payload_ops::List;
 use std::alloc::Global;
 use text_format::Token;
 

@@ -7,10 +7,10 @@ use Rattle.std.proofs.Math.Nat.{suc-mul, zero-mul}
 use Rattle.std.proofs.lemmas.Bool.{eqb-true, lt-ltb}
 use Rattle.std.proofs.lemmas.List.{length-replicate}
 use Rattle.std.proofs.lemmas.Slice.Eq.{bytes_eq-Decides}
-use Rattle.payload_ops.specs.declared.kinds.ElemTy.{ElemTy}
-use Rattle.payload_ops.specs.declared.kinds.ElemTy.TheVariants.{Int, Index}
+use Rattle.mlir_base.specs.declared.types.ElemTy.{ElemTy}
+use Rattle.mlir_base.specs.declared.types.ElemTy.TheVariants.{Int, Index}
 use Rattle.payload_ops.specs.Bits.{reduce}
-use Rattle.payload_ops.specs.Payload.{is_value}
+use Rattle.mlir_base.specs.Types.{is_value}
 use Rattle.payload_ops.proofs.Words.{reduce-lt}
 use Rattle.mlir_ir.specs.declared.tree.Ty.{Ty}
 use Rattle.mlir_ir.specs.declared.tree.Ty.TheVariants.{Scalar, Tensor, Vector}
@@ -18,7 +18,7 @@ use Rattle.mlir_ir.specs.declared.tree.Extent.{Extent}
 use Rattle.mlir_ir.specs.declared.tree.Extent.TheVariants.{Fixed as FixedExtent, Any}
 use Rattle.mlir_ir.specs.declared.tree.OpKind.{OpKind}
 use Rattle.mlir_ir.specs.declared.tree.OpKind.TheVariants as kinds
-use Rattle.mlir_ir.specs.declared.tree.Which.TheVariants as limits
+use Rattle.mlir_base.specs.declared.limit.Which.TheVariants as limits
 use Rattle.text_format.specs.declared.types.RankedShape.{RankedShape}
 use Rattle.text_format.specs.Token.{TokenShape}
 use Rattle.text_format.specs.Types.{extents_of, ranked_from, width_of, integer, element_of, is_some}

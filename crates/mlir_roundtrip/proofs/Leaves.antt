@@ -4,7 +4,7 @@ use Rattle.std.specs.Str.Parse.{AllDigits}
 use Rattle.std.proofs.lemmas.Bool.{ne_eqb}
 use Rattle.std.proofs.lemmas.Fmt.{decimal_is_IsNumeral}
 use Rattle.std.proofs.lemmas.Str.Parse.{digit_from_value}
-use Rattle.payload_ops.specs.declared.kinds.ElemTy.{ElemTy}
+use Rattle.mlir_base.specs.declared.types.ElemTy.{ElemTy}
 use Rattle.mlir_print.specs.declared.names.Given.{Given}
 use Rattle.mlir_print.specs.declared.names.Given.TheVariants.{Argument, Result}
 use Rattle.mlir_print.specs.Types.{elem_text}

@@ -5,10 +5,11 @@ use Rattle.std.proofs.lemmas.Bool.{and_parts, leb-true, le-leb, ltb-true, ltb-fa
 use Rattle.std.proofs.lemmas.Int.{ints}
 use Rattle.std.proofs.lemmas.Fmt.{digits_value-decimal}
 use Rattle.std.proofs.lemmas.Str.Parse.{IsNumeralModel, numerals_by_fold, tells_digits}
-use Rattle.payload_ops.specs.declared.kinds.ElemTy.{ElemTy}
-use Rattle.payload_ops.specs.declared.kinds.ElemTy.TheVariants.{Int, Index}
+use Rattle.mlir_base.specs.declared.types.ElemTy.{ElemTy}
+use Rattle.mlir_base.specs.declared.types.ElemTy.TheVariants.{Int, Index}
 use Rattle.payload_ops.specs.Bits.{reduce, signed_of}
-use Rattle.payload_ops.specs.Payload.{bits_of, is_elem, is_value, has_type}
+use Rattle.mlir_base.specs.Types.{bits_of, is_elem, is_value}
+use Rattle.payload_ops.specs.Payload.{has_type}
 use Rattle.payload_ops.proofs.Words.{signed-low, signed-high, pow-double}
 use Rattle.payload_ops.proofs.Joined.{reduce-signed_of}
 use Rattle.text_format.specs.Types.{element_of}

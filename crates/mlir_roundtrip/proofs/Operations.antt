@@ -3,7 +3,7 @@ use Rattle.std.proofs.Common.{◌≡◌, ◌<◌, ◌≤◌, subst, ℕ, ◌+◌
 use Rattle.std.specs.List.{AllByRecursion}
 use Rattle.std.specs.Str.{bytes_eq}
 use Rattle.std.proofs.lemmas.Bool.{and_parts, eqb-true, leb-true, ltb-true}
-use Rattle.payload_ops.specs.declared.kinds.ElemTy.{ElemTy}
+use Rattle.mlir_base.specs.declared.types.ElemTy.{ElemTy}
 use Rattle.payload_ops.specs.declared.step.Arg.{Arg}
 use Rattle.payload_ops.specs.declared.step.PayloadStep.{PayloadStep}
 use Rattle.payload_ops.specs.Shape.{PayloadShape}
@@ -13,7 +13,7 @@ use Rattle.mlir_ir.specs.declared.tree.ValueId.{ValueId}
 use Rattle.mlir_ir.specs.declared.tree.Iter.{Iter}
 use Rattle.mlir_ir.specs.declared.tree.OpKind.{OpKind}
 use Rattle.mlir_ir.specs.declared.tree.OpKind.TheVariants as kinds
-use Rattle.mlir_ir.specs.declared.tree.Which.TheVariants as limits
+use Rattle.mlir_base.specs.declared.limit.Which.TheVariants as limits
 use Rattle.text_format.specs.declared.lexeme.Lexeme.TheVariants as lexemes
 use Rattle.text_format.specs.declared.front.Kind.TheVariants as tokens
 use Rattle.text_format.specs.Token.{TokenShape}

@@ -3,14 +3,15 @@ use Rattle.std.proofs.Common.{◌≡◌, ◌<◌, ◌^◌, ℕ, ◌+◌, suc, ze
 use Rattle.std.specs.List.{AllByRecursion}
 use Rattle.std.specs.Prelude.{slice_get}
 use Rattle.std.proofs.lemmas.Bool.{and_parts, leb-true}
-use Rattle.payload_ops.specs.declared.kinds.ElemTy.{ElemTy}
-use Rattle.payload_ops.specs.declared.kinds.ElemTy.TheVariants.{Int, Index}
+use Rattle.mlir_base.specs.declared.types.ElemTy.{ElemTy}
+use Rattle.mlir_base.specs.declared.types.ElemTy.TheVariants.{Int, Index}
 use Rattle.payload_ops.specs.declared.step.Arg.{Arg}
 use Rattle.payload_ops.specs.declared.step.Arg.TheVariants.{Input, Out, Step as StepArg}
 use Rattle.payload_ops.specs.declared.step.StepOp.{StepOp}
 use Rattle.payload_ops.specs.declared.step.PayloadStep.{PayloadStep}
 use Rattle.payload_ops.specs.Shape.{PayloadShape}
-use Rattle.payload_ops.specs.Payload.{arg_type, has_type, op_fits, steps_fit, payload_fits, bits_of, is_elem, have_one_type}
+use Rattle.payload_ops.specs.Payload.{arg_type, has_type, op_fits, steps_fit, payload_fits, have_one_type}
+use Rattle.mlir_base.specs.Types.{bits_of, is_elem}
 use Rattle.affine_maps.specs.Shape.{MapShape}
 use Rattle.text_format.specs.declared.class.Class.TheVariants as classes
 use Rattle.text_format.specs.declared.class.Position.TheVariants as places

@@ -6,7 +6,7 @@ use Rattle.mlir_ir.specs.declared.tree.Ty.{Ty}
 use Rattle.mlir_ir.specs.declared.tree.Ty.TheVariants.{Tensor}
 use Rattle.mlir_ir.specs.declared.tree.Extent.{Extent}
 use Rattle.mlir_ir.specs.declared.tree.Extent.TheVariants.{Fixed as FixedExtent}
-use Rattle.mlir_ir.specs.declared.tree.Which.TheVariants as limits
+use Rattle.mlir_base.specs.declared.limit.Which.TheVariants as limits
 use Rattle.text_format.specs.declared.types.Extent.TheVariants as written
 use Rattle.text_format.specs.Token.{TokenShape}
 use Rattle.text_format.specs.Bytes.{is_digit}

@@ -6,7 +6,7 @@ use Rattle.std.proofs.lemmas.List.{drop_at, take_at, length-map}
 use Rattle.std.proofs.lemmas.Str.Parse.{IsNumeralModel, numerals_by_fold, tells_digits, digit_from_value}
 use Rattle.std.specs.Fmt.{digits}
 use Rattle.std.specs.Str.Parse.{AllDigits}
-use Rattle.payload_ops.specs.declared.kinds.ElemTy.TheVariants.{Int}
+use Rattle.mlir_base.specs.declared.types.ElemTy.TheVariants.{Int}
 use Rattle.payload_ops.specs.Payload.{has_type}
 use Rattle.text_format.specs.Bytes.{is_digit}
 use Rattle.text_format.specs.Types.{number_at, no_extents, extent_before, begins_with_digit, extents_in, extents_of, extent_of, ranked_from, is_shaped, inside, width_of, element_of, is_some}

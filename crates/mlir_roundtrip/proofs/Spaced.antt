@@ -1,9 +1,9 @@
 -- The pieces of a printable operation are well spaced.
 use Rattle.std.proofs.Common.{◌≡◌, ◌<◌, ◌≤◌, ◌^◌, ◌+◌, ℕ, true, List, [], ◌∷◌, map, refl, sym, subst, arith, codes, false}
 use Rattle.std.specs.List.{AllByRecursion}
-use Rattle.payload_ops.specs.declared.kinds.ElemTy.{ElemTy}
-use Rattle.payload_ops.specs.declared.kinds.ElemTy.TheVariants.{Int, Index}
-use Rattle.payload_ops.specs.Payload.{is_value}
+use Rattle.mlir_base.specs.declared.types.ElemTy.{ElemTy}
+use Rattle.mlir_base.specs.declared.types.ElemTy.TheVariants.{Int, Index}
+use Rattle.mlir_base.specs.Types.{is_value}
 use Rattle.payload_ops.specs.Shape.{PayloadShape}
 use Rattle.affine_maps.specs.Shape.{MapShape}
 use Rattle.mlir_ir.specs.declared.tree.Ty.{Ty}

@@ -2,14 +2,15 @@
 use Rattle.std.proofs.Common.{◌≡◌, ◌≤◌, subst, ℕ, ◌+◌, suc, true, ◌&&◌, List, [], ◌∷◌, ◌++◌, length, length-append, Option, Some, None, Result as Answer, Ok, refl, arith, nat_lt, nat_le}
 use Rattle.std.specs.List.{AllByRecursion}
 use Rattle.std.proofs.lemmas.Bool.{and_parts, ltb-true, leb-true}
-use Rattle.payload_ops.specs.declared.kinds.ElemTy.{ElemTy}
-use Rattle.payload_ops.specs.declared.kinds.ElemTy.TheVariants.{Int, Index}
+use Rattle.mlir_base.specs.declared.types.ElemTy.{ElemTy}
+use Rattle.mlir_base.specs.declared.types.ElemTy.TheVariants.{Int, Index}
 use Rattle.payload_ops.specs.declared.step.Arg.{Arg}
 use Rattle.payload_ops.specs.declared.step.Arg.TheVariants as args
 use Rattle.payload_ops.specs.declared.step.StepOp.TheVariants as ops
 use Rattle.payload_ops.specs.declared.step.PayloadStep.{PayloadStep}
-use Rattle.payload_ops.specs.Payload.{is_elem, is_value, is_cast}
-use Rattle.mlir_ir.specs.declared.tree.Which.TheVariants as limits
+use Rattle.mlir_base.specs.Types.{is_elem, is_value}
+use Rattle.payload_ops.specs.Payload.{is_cast}
+use Rattle.mlir_base.specs.declared.limit.Which.TheVariants as limits
 use Rattle.text_format.specs.Token.{TokenShape}
 use Rattle.text_format.specs.Types.{element_of}
 use Rattle.mlir_syntax.specs.declared.tree.steps.Conversion.{Conversion}

@@ -4,10 +4,10 @@ use Rattle.std.proofs.Math.Seq.{drop-cons}
 use Rattle.std.specs.Str.{bytes_eq}
 use Rattle.std.proofs.lemmas.Int.{ints}
 use Rattle.std.proofs.lemmas.Bool.{and_from, and_parts, lt-ltb, le-leb, leb-true}
-use Rattle.payload_ops.specs.declared.kinds.ElemTy.{ElemTy}
-use Rattle.payload_ops.specs.declared.kinds.ElemTy.TheVariants.{Int, Index}
+use Rattle.mlir_base.specs.declared.types.ElemTy.{ElemTy}
+use Rattle.mlir_base.specs.declared.types.ElemTy.TheVariants.{Int, Index}
 use Rattle.payload_ops.specs.Bits.{reduce}
-use Rattle.payload_ops.specs.Payload.{bits_of, is_value}
+use Rattle.mlir_base.specs.Types.{bits_of, is_value}
 use Rattle.payload_ops.proofs.Words.{reduce-lt, reduce_is}
 use Rattle.text_format.specs.Bytes.{is_digit}
 use Rattle.text_format.specs.Token.{TokenShape}

@@ -1,10 +1,10 @@
 -- The values of a function in scope (MLIR LangRef, "High-Level Structure": a value is used where its definition dominates).
 use Rattle.std.specs.Prelude.{◌≡◌, true, ℕ, ◌+◌, ◌≤◌, suc, List, [], ◌∷◌, ◌++◌, Result, Ok, Err, Option, Some, None, is_none, nat_lt, ◌*◌, length}
-use Rattle.payload_ops.specs.declared.kinds.ElemTy.{ElemTy}
+use Rattle.mlir_base.specs.declared.types.ElemTy.{ElemTy}
 use Rattle.mlir_ir.specs.declared.tree.Ty.{Ty}
 use Rattle.mlir_ir.specs.declared.tree.Ty.TheVariants.{Scalar}
 use Rattle.mlir_ir.specs.declared.tree.ValueId.{ValueId}
-use Rattle.mlir_ir.specs.declared.tree.Which.TheVariants as limits
+use Rattle.mlir_base.specs.declared.limit.Which.TheVariants as limits
 use Rattle.text_format.specs.Token.{TokenShape}
 use Rattle.mlir_syntax.specs.declared.tree.files.Param.{Param}
 use Rattle.mlir_scope.specs.declared.names.Meaning.{Meaning}

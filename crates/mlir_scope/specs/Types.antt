@@ -5,14 +5,14 @@ use Rattle.text_format.specs.declared.types.Extent.TheVariants as extents
 use Rattle.text_format.specs.declared.types.RankedShape.{RankedShape}
 use Rattle.text_format.specs.Types.{extents_of, ranked_from, element_of}
 use Rattle.text_format.specs.Token.{TokenShape}
-use Rattle.payload_ops.specs.declared.kinds.ElemTy.{ElemTy}
-use Rattle.payload_ops.specs.declared.kinds.ElemTy.TheVariants.{Int}
+use Rattle.mlir_base.specs.declared.types.ElemTy.{ElemTy}
+use Rattle.mlir_base.specs.declared.types.ElemTy.TheVariants.{Int}
 use Rattle.payload_ops.specs.Payload.{has_type}
 use Rattle.mlir_ir.specs.declared.tree.Ty.{Ty}
 use Rattle.mlir_ir.specs.declared.tree.Ty.TheVariants.{Scalar, Tensor, Vector}
 use Rattle.mlir_ir.specs.declared.tree.Extent.{Extent}
 use Rattle.mlir_ir.specs.declared.tree.Extent.TheVariants.{Fixed, Any}
-use Rattle.mlir_ir.specs.declared.tree.Which.TheVariants as limits
+use Rattle.mlir_base.specs.declared.limit.Which.TheVariants as limits
 use Rattle.mlir_lex.specs.declared.fault.Fault.{Fault}
 use Rattle.mlir_lex.specs.declared.fault.Fault.TheVariants.{Syntax, TypeDiffers, Limit}
 use Rattle.mlir_ir.specs.Shape.{volume}

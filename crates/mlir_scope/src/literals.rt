@@ -5,9 +5,10 @@ ghost use Rattle.mlir_syntax.specs.declared.tree.literals.ScalarLiteral.TheVaria
 ghost use Rattle.mlir_lex.specs.Chain.{Agree};
 ghost use Rattle.mlir_scope.specs.Literals.{digits_value, is_negative, sign_place, signed_by, most_of, elem_at, truth_of, literal_of, IsSmall};
 
+use mlir_base::{ElemTy, Width};
 use mlir_lex::{Fault, Refused};
 use mlir_syntax::{ScalarLiteral, Sign, TypedNumber};
-use payload_ops::{ElemTy, Width, wrap};
+use payload_ops::wrap;
 use text_format::{Token, element_of};
 
 /// The number that decimal digits spell. `None`: it is 2^64 or more.

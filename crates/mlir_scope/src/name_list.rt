@@ -3,7 +3,7 @@
 ghost use Rattle.std.specs.Prelude.{◌≡◌, ◌∷◌, ◌++◌, [], None, OnOk};
 ghost use Rattle.mlir_scope.specs.Names.{place};
 
-use payload_ops::Memory;
+use mlir_base::Memory;
 use std::alloc::Global;
 use std::collections::HashMap;
 use std::marker::Model;

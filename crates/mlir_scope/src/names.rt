@@ -5,8 +5,9 @@ ghost use Rattle.std.specs.Option.{IsSomeAnd};
 ghost use Rattle.mlir_scope.specs.Names.{find, entry, IsFront};
 ghost use Rattle.mlir_scope.specs.declared.names.Meaning.{Meaning as Meant};
 
+use mlir_base::{ElemTy, Memory};
 use mlir_ir::Ty;
-use payload_ops::{Arg, ElemTy, Memory};
+use payload_ops::Arg;
 use std::alloc::Global;
 use std::collections::HashMap;
 use std::marker::Model;

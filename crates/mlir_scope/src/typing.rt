@@ -1,13 +1,13 @@
 //! Types, as they are read.
 
 ghost use Rattle.std.specs.Prelude.{◌≡◌, ◌<◌, ◌≤◌, ◌*◌, ◌^◌, IfOk, Some, nat_le};
-ghost use Rattle.payload_ops.specs.Payload.{is_elem};
+ghost use Rattle.mlir_base.specs.Types.{is_elem};
 ghost use Rattle.mlir_lex.specs.Chain.{Agree, each};
 ghost use Rattle.mlir_scope.specs.Types.{extent_at, counted, elements, least_elements, shape_type, type_at, is_extent, are_extents, is_shape, same_type, same_elem, elem_of};
 
-use mlir_ir::{Extent, Ty, Which};
+use mlir_base::{ElemTy, List, Memory, Which};
+use mlir_ir::{Extent, Ty};
 use mlir_lex::{Fault, Refused};
-use payload_ops::{ElemTy, List, Memory};
 use std::alloc::Global;
 use text_format::{RankedShape, Token, element_of, ranked_of};
 

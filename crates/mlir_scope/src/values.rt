@@ -6,10 +6,10 @@ ghost use Rattle.mlir_scope.specs.Scope.{fresh, same_operand, typed_as, value_id
 
 use crate::names::{Meaning, Names, Scope};
 use crate::typing::{copy_type, elem_of, same_elem, same_type, type_at};
-use mlir_ir::{Ty, ValueId, Which};
+use mlir_base::{ElemTy, List, Which};
+use mlir_ir::{Ty, ValueId};
 use mlir_lex::{Fault, Refused};
 use mlir_syntax::Param;
-use payload_ops::{ElemTy, List};
 use std::alloc::Global;
 use text_format::Token;
 

@@ -4,7 +4,7 @@ ghost use Rattle.mlir_streams.specs.Fakes.{contents_of, opened_text};
 
 use crate::count::{is_failing, raised};
 use crate::{Failed, OpenError, Shelf};
-use payload_ops::{List, Name};
+use mlir_base::{List, Name};
 
 // The number of the first file of a name.
 fn position_of(files: &[(Name, List<u8>)], name: &str) -> Option<usize>

@@ -3,7 +3,7 @@ ghost use Rattle.std.specs.Prelude.{◌≡◌, Some, []};
 
 use crate::count::{is_failing, raised};
 use crate::{Sink, WriteError};
-use payload_ops::List;
+use mlir_base::List;
 use std::alloc::Global;
 
 /// Bytes in memory, from writes that may take a part or fail.

@@ -4,7 +4,7 @@ use crate::{
     CleanShelf, CleanSink, Failed, FetchError, HostShelf, HostSink, MemShelf, MemSink, OpenError,
     Shelf, Sink, WriteError, read_whole, write_whole,
 };
-use payload_ops::{List, Memory, Name};
+use mlir_base::{List, Memory, Name};
 use std::alloc::Global;
 use std::io::{ErrorKind, Read, Write};
 use std::test::Fail;

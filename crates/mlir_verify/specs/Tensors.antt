@@ -1,8 +1,8 @@
 -- Tests on the types of values (Builtin, "RankedTensorType").
 use Rattle.std.specs.Prelude.{ℕ, ◌==◌, ◌*◌, ◌&&◌, Bool, true, false, List, [], ◌∷◌, length, Option, Some, None}
 use Rattle.std.specs.List.{list_all}
-use Rattle.payload_ops.specs.declared.kinds.ElemTy.{ElemTy}
-use Rattle.payload_ops.specs.declared.kinds.ElemTy.TheVariants.{Int}
+use Rattle.mlir_base.specs.declared.types.ElemTy.{ElemTy}
+use Rattle.mlir_base.specs.declared.types.ElemTy.TheVariants.{Int}
 use Rattle.mlir_ir.specs.declared.tree.Extent.{Extent}
 use Rattle.mlir_ir.specs.declared.tree.Extent.TheVariants.{Fixed, Any}
 use Rattle.mlir_ir.specs.declared.tree.Ty.{Ty}

@@ -10,8 +10,8 @@ use crate::extents::has_extent;
 use crate::scope::Scope;
 use crate::tensors::extents_of;
 use affine_maps::{AffineMap, Expr};
+use mlir_base::Memory;
 use mlir_ir::{Extent, Iter, Ty, ValueId};
-use payload_ops::Memory;
 use std::alloc::Global;
 use std::collections::BTreeMap;
 

@@ -3,8 +3,8 @@ ghost use Rattle.std.specs.List.{list_all};
 ghost use Rattle.mlir_verify.specs.Built.{is_integer, is_built_type, is_built_kind, is_built};
 
 use crate::tensors::are_fixed;
+use mlir_base::ElemTy;
 use mlir_ir::{Op, OpKind, Ty, ValueId};
-use payload_ops::ElemTy;
 
 fn is_integer(elem: &ElemTy) -> bool
     ensures { result ≡ is_integer elem.now }

@@ -3,8 +3,8 @@ ghost use Rattle.mlir_verify.specs.Constants.{are_cells, has_cells};
 ghost use Rattle.mlir_verify.specs.Tensors.{elements};
 
 use crate::tensors::elements;
+use mlir_base::{ElemTy, Width};
 use mlir_ir::{Extent, Ty};
-use payload_ops::{ElemTy, Width};
 
 fn is_cell(elem: Width, cell: u64) -> bool
     ensures { result ≡ nat_lt cell (2 ^ elem) }

@@ -8,8 +8,8 @@ ghost use Rattle.mlir_verify.specs.Stages.{IsPermuted, is_in};
 use crate::scope::Scope;
 use crate::tensors::extents_of;
 use affine_maps::{AffineMap, Expr};
+use mlir_base::Memory;
 use mlir_ir::{Iter, Ty, ValueId};
-use payload_ops::Memory;
 use std::alloc::Global;
 use std::collections::BTreeSet;
 

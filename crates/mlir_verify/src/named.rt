@@ -6,8 +6,8 @@ ghost use Rattle.mlir_verify.specs.Scope.{types_in, constants_in};
 
 use crate::scope::Scope;
 use crate::tensors::{are_as_wide, is_alike, rank_of};
+use mlir_base::ElemTy;
 use mlir_ir::{Ty, ValueId};
-use payload_ops::ElemTy;
 
 fn is_element(scalar: Option<&Ty>, tensor: Option<&Ty>) -> bool
     ensures { result ≡ is_element (option_copied scalar.entry) (option_copied tensor.entry) }
@@ -32,7 +32,7 @@ fn is_at_most_as_wide(s: Option<&Ty>, t: Option<&Ty>) -> bool
 {
     match (s, t) {
         (Some(Ty::Tensor { elem: v, .. }), Some(Ty::Tensor { elem: w, .. })) => {
-            v.bits() <= w.bits()
+            0 < v.bits() && v.bits() <= w.bits()
         }
         _ => false,
     }

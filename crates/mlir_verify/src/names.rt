@@ -4,8 +4,8 @@ ghost use Rattle.mlir_verify.specs.Names.{numbers, arguments, defined_by, in_sco
 ghost use Rattle.mlir_verify.specs.Scope.{types_in, IsSet, Adds};
 
 use crate::scope::Scope;
+use mlir_base::Memory;
 use mlir_ir::{Idx, Op, OpKind, Ty, ValueId};
-use payload_ops::Memory;
 use std::collections::BTreeSet;
 
 /// Adds a number; false where it is there.

@@ -5,8 +5,8 @@ ghost use Rattle.mlir_verify.specs.Names.{numbers};
 ghost use Rattle.mlir_verify.specs.Place.{type_among};
 ghost use Rattle.mlir_verify.specs.Scope.{types_in, constants_in, IsSet};
 
+use mlir_base::Memory;
 use mlir_ir::{Op, OpKind, Ty, ValueId};
-use payload_ops::Memory;
 use std::alloc::Global;
 use std::collections::{BTreeMap, BTreeSet};
 

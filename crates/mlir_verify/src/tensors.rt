@@ -2,8 +2,8 @@ ghost use Rattle.std.specs.Prelude.{◌≡◌, ◌^◌, ◌-◌, ◌<◌, min, l
 ghost use Rattle.std.specs.List.{list_all};
 ghost use Rattle.mlir_verify.specs.Tensors.{is_fixed, is_fixed_tensor, size_of, elements, extents_of, rank_of, is_tensor, has_elements, are_as_wide, is_alike, result_type};
 
+use mlir_base::ElemTy;
 use mlir_ir::{Extent, Ty, ValueId};
-use payload_ops::ElemTy;
 
 fn is_fixed(extent: &Extent) -> bool
     ensures { result ≡ is_fixed extent.now }

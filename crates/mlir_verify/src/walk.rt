@@ -19,8 +19,8 @@ use crate::rule::{Refused, Rule};
 use crate::scope::{Scope, define};
 use crate::structured::broken_loops;
 use crate::types::is_typed;
+use mlir_base::Memory;
 use mlir_ir::{Func, Module, Op};
-use payload_ops::Memory;
 use std::alloc::Global;
 use std::collections::BTreeSet;
 

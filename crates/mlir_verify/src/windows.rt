@@ -1,6 +1,6 @@
 ghost use Rattle.std.specs.Prelude.{◌≡◌, ◌≤◌, ◌^◌, ◌-◌, ◌*ℤ◌, is_some, IsTrue, unsigned_abs, option_copied};
 ghost use Rattle.std.specs.List.{list_all, list_any, zip, enumerate_from};
-ghost use Rattle.payload_ops.specs.Numbers.{is_in_range};
+ghost use Rattle.mlir_base.specs.Numbers.{is_in_range};
 ghost use Rattle.affine_maps.specs.Map.{expr_fits};
 ghost use Rattle.mlir_verify.specs.Windows.{greatest, greatest_value, is_below, stays_in, operand_stays_in, is_zero, has_no_points, inputs_stay_in};
 ghost use Rattle.mlir_verify.specs.Scope.{types_in};

@@ -5,7 +5,8 @@ use Rattle.std.proofs.lemmas.Int.{ints}
 use Rattle.std.specs.Int.{int_wrapping_div}
 use native.Mathlib.Nat.{mod-le}
 use Rattle.payload_ops.proofs.Words.{reduce-lt, reduce_is, low-low, low-quotient, pow-split}
-use Rattle.payload_ops.specs.Bits.{unless, shifted_left, shifted_right, sign_shifted, minus_one, quotient_traps, reduce, signed_of, on_values, binary_of, Gives}
+use Rattle.payload_ops.specs.Bits.{unless, shifted_left, shifted_right, sign_shifted, quotient_traps, reduce, signed_of, on_values, binary_of, Gives}
+use Rattle.mlir_base.specs.Types.{minus_one}
 use Rattle.payload_ops.specs.declared.kinds.Division.{Division}
 use Rattle.payload_ops.specs.declared.kinds.BinOp.{BinOp}
 use Rattle.payload_ops.specs.declared.kinds.BinOp.TheVariants.{Addi, Subi, Muli, Divsi, Divui, Remsi, Remui, Andi, Ori, Xori, Shli, Shrsi, Shrui, Maxsi, Maxui, Minsi, Minui}

@@ -9,15 +9,16 @@ use Rattle.std.specs.Option.{option_and_then, option_map}
 use Rattle.payload_ops.specs.Bits.{on_values, binary_of, reduce, signed_of, compares}
 use Rattle.payload_ops.specs.Combine.{operation_of, combiner_of_operation, joined, avoids, op_avoids, steps_avoid, other_than_out, joins, others_avoid, combining, value_after}
 use Rattle.payload_ops.specs.Laws.{with_out, JoinsTerm, IsApartFromOut}
-use Rattle.payload_ops.specs.Payload.{IsPayload, bits_of, is_elem, has_type, arg_type, op_fits}
+use Rattle.payload_ops.specs.Payload.{IsPayload, has_type, arg_type, op_fits}
+use Rattle.mlir_base.specs.Types.{bits_of, is_elem}
 use Rattle.payload_ops.specs.Shape.{PayloadShape}
 use Rattle.payload_ops.specs.Values.{Given, arg_value, arg_bits, terms_sum, bit_of, op_value, step_value, steps_values}
 use Rattle.payload_ops.specs.declared.kinds.BinOp.{BinOp}
 use Rattle.payload_ops.specs.declared.kinds.BinOp.TheVariants.{Addi, Subi, Muli, Divsi, Divui, Remsi, Remui, Andi, Ori, Xori, Shli, Shrsi, Shrui, Maxsi, Maxui, Minsi, Minui}
 use Rattle.payload_ops.specs.declared.kinds.Combiner.{Combiner}
 use Rattle.payload_ops.specs.declared.kinds.Combiner.TheVariants.{Add, Mul, And, Or, Xor, MaxS, MaxU, MinS, MinU}
-use Rattle.payload_ops.specs.declared.kinds.ElemTy.{ElemTy}
-use Rattle.payload_ops.specs.declared.kinds.ElemTy.TheVariants.{Int, Index as IndexType}
+use Rattle.mlir_base.specs.declared.types.ElemTy.{ElemTy}
+use Rattle.mlir_base.specs.declared.types.ElemTy.TheVariants.{Int, Index as IndexType}
 use Rattle.payload_ops.specs.declared.step.Arg.{Arg}
 use Rattle.payload_ops.specs.declared.step.Arg.TheVariants.{Input, Out, Step}
 use Rattle.payload_ops.specs.declared.step.PayloadStep.{PayloadStep}

@@ -6,11 +6,12 @@ use Rattle.std.proofs.lemmas.List.{map-append}
 use Rattle.std.specs.List.{list_all}
 use Rattle.payload_ops.proofs.Words.{reduce-lt}
 use Rattle.payload_ops.proofs.BinaryLemmas.{binary_of-lt}
-use Rattle.payload_ops.specs.Payload.{bits_of, is_value, is_elem, is_narrower, arg_type, has_type, is_widening, op_fits, steps_fit, IsPayload}
+use Rattle.mlir_base.specs.Types.{bits_of, is_value, is_elem}
+use Rattle.payload_ops.specs.Payload.{is_narrower, arg_type, has_type, is_widening, op_fits, steps_fit, IsPayload}
 use Rattle.payload_ops.specs.Shape.{PayloadShape}
 use Rattle.payload_ops.specs.Values.{Given, arg_value, arg_bits, bit_of, is_supplied, op_value, step_value, steps_values, payload_value, values_fit, IsGiven}
-use Rattle.payload_ops.specs.declared.kinds.ElemTy.{ElemTy}
-use Rattle.payload_ops.specs.declared.kinds.ElemTy.TheVariants.{Int, Index as IndexType}
+use Rattle.mlir_base.specs.declared.types.ElemTy.{ElemTy}
+use Rattle.mlir_base.specs.declared.types.ElemTy.TheVariants.{Int, Index as IndexType}
 use Rattle.payload_ops.specs.declared.step.Arg.{Arg}
 use Rattle.payload_ops.specs.declared.step.Arg.TheVariants.{Input, Out, Step}
 use Rattle.payload_ops.specs.declared.step.PayloadStep.{PayloadStep}

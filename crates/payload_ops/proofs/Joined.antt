@@ -8,7 +8,8 @@ use Rattle.std.proofs.lemmas.Nat.Bits.{same_from_bits, bit_at_or}
 use Rattle.std.proofs.lemmas.Bool.{lt-ltb, le-ltb, cond_both, cond-true, cond-false, cases_cond, ltb-true, ltb-false}
 use Rattle.std.proofs.lemmas.Int.{ints, clamps}
 use Rattle.std.specs.Int.Bits.{xor_assoc}
-use Rattle.payload_ops.specs.Bits.{reduce, signed_of, on_values, binary_of, least_signed, minus_one}
+use Rattle.payload_ops.specs.Bits.{reduce, signed_of, on_values, binary_of}
+use Rattle.mlir_base.specs.Types.{least_signed, minus_one}
 use Rattle.payload_ops.specs.Combine.{joined, neutral_of, operation_of}
 use Rattle.payload_ops.specs.Laws.{IsAssociative, IsCommutative, IsNeutral}
 use Rattle.payload_ops.specs.declared.kinds.Combiner.{Combiner}

@@ -8,17 +8,18 @@ use Rattle.std.proofs.lemmas.Option.{none-some, same_Some, option_and_then_some}
 use Rattle.std.specs.Prelude.{slice_get}
 use Rattle.std.specs.Int.{int_div_euclid}
 use Rattle.std.specs.Option.{option_and_then, option_map}
-use Rattle.payload_ops.specs.Bits.{reduce, signed_of, on_values, binary_of, compares, minus_one, least_signed, shifted_left, shifted_right, sign_shifted}
+use Rattle.payload_ops.specs.Bits.{reduce, signed_of, on_values, binary_of, compares, shifted_left, shifted_right, sign_shifted}
+use Rattle.mlir_base.specs.Types.{minus_one, least_signed, bits_of}
 use Rattle.payload_ops.specs.Combine.{joined, neutral_of, combining}
 use Rattle.payload_ops.specs.Known.{known_arg, where_true, known_first, known_second, known_binary, agreed, known_select, known_compare, known_op, known_steps, is_known_as, term_is_neutral, is_neutral_under, may_trap}
 use Rattle.payload_ops.specs.Laws.{AgreesWith, KeepsOutput}
-use Rattle.payload_ops.specs.Payload.{IsPayload, bits_of}
+use Rattle.payload_ops.specs.Payload.{IsPayload}
 use Rattle.payload_ops.specs.Shape.{PayloadShape}
 use Rattle.payload_ops.specs.Values.{Given, arg_value, arg_bits, bit_of, op_value, step_value, steps_values, payload_value}
 use Rattle.payload_ops.specs.declared.kinds.BinOp.{BinOp}
 use Rattle.payload_ops.specs.declared.kinds.BinOp.TheVariants.{Muli, Andi, Ori, Shli, Shrsi, Shrui}
 use Rattle.payload_ops.specs.declared.kinds.Combiner.{Combiner}
-use Rattle.payload_ops.specs.declared.kinds.ElemTy.{ElemTy}
+use Rattle.mlir_base.specs.declared.types.ElemTy.{ElemTy}
 use Rattle.payload_ops.specs.declared.step.Arg.{Arg}
 use Rattle.payload_ops.specs.declared.step.Arg.TheVariants.{Input, Out, Step}
 use Rattle.payload_ops.specs.declared.step.PayloadStep.{PayloadStep}

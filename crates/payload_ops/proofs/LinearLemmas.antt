@@ -6,11 +6,11 @@ use Rattle.std.proofs.lemmas.List.{drop_more, drop_all}
 use Rattle.std.specs.List.{list_all}
 use Rattle.payload_ops.proofs.Words.{reduce-add}
 use Rattle.payload_ops.specs.Bits.{reduce}
-use Rattle.payload_ops.specs.Numbers.{is_in_range, is_coefficient}
+use Rattle.mlir_base.specs.Numbers.{is_in_range, is_coefficient}
 use Rattle.payload_ops.specs.Payload.{has_type, term_fits}
 use Rattle.payload_ops.specs.Values.{terms_sum}
-use Rattle.payload_ops.specs.declared.kinds.ElemTy.{ElemTy}
-use Rattle.payload_ops.specs.declared.kinds.ElemTy.TheVariants.{Index as IndexType}
+use Rattle.mlir_base.specs.declared.types.ElemTy.{ElemTy}
+use Rattle.mlir_base.specs.declared.types.ElemTy.TheVariants.{Index as IndexType}
 use Rattle.payload_ops.specs.declared.step.Arg.{Arg}
 
 pub terms-more : (value : Arg → ℕ) (terms : List (Arg × ℤ)) (i : ℕ) (d : Arg × ℤ) (sum next v : ℕ) → i < length terms → v ≡ value (get_or terms i d).0

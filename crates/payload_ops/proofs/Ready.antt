@@ -8,11 +8,12 @@ use Rattle.std.specs.List.{list_all}
 use Rattle.payload_ops.proofs.Steps.{steps_fit-append}
 use Rattle.payload_ops.proofs.InType.{types_of, values_fit-length, has_type-bits, arg_value-lt, steps_values-fit, given-parts}
 use Rattle.payload_ops.specs.Evaluation.{IsReady, IsNext}
-use Rattle.payload_ops.specs.Payload.{bits_of, arg_type, has_type, have_one_type, is_widening, is_narrowing, is_cast, term_fits, op_fits, steps_fit, IsPayload}
+use Rattle.mlir_base.specs.Types.{bits_of}
+use Rattle.payload_ops.specs.Payload.{arg_type, has_type, have_one_type, is_widening, is_narrowing, is_cast, term_fits, op_fits, steps_fit, IsPayload}
 use Rattle.payload_ops.specs.Shape.{PayloadShape}
 use Rattle.payload_ops.specs.Values.{Given, arg_value, arg_bits, is_supplied, steps_values, values_fit}
-use Rattle.payload_ops.specs.declared.kinds.ElemTy.{ElemTy}
-use Rattle.payload_ops.specs.declared.kinds.ElemTy.TheVariants.{Int}
+use Rattle.mlir_base.specs.declared.types.ElemTy.{ElemTy}
+use Rattle.mlir_base.specs.declared.types.ElemTy.TheVariants.{Int}
 use Rattle.payload_ops.specs.declared.step.Arg.{Arg}
 use Rattle.payload_ops.specs.declared.step.Arg.TheVariants.{Input, Out, Step}
 use Rattle.payload_ops.specs.declared.step.PayloadStep.{PayloadStep}

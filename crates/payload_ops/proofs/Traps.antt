@@ -6,15 +6,16 @@ use Rattle.std.proofs.lemmas.Option.{none-some, same_Some}
 use Rattle.std.specs.Prelude.{◌&&◌, slice_get}
 use Rattle.std.specs.List.{list_any}
 use Rattle.std.specs.Option.{option_and_then, option_map}
-use Rattle.payload_ops.specs.Bits.{on_values, binary_of, least_signed, minus_one, quotient_traps, unless}
+use Rattle.payload_ops.specs.Bits.{on_values, binary_of, quotient_traps, unless}
+use Rattle.mlir_base.specs.Types.{least_signed, minus_one, bits_of, is_value}
 use Rattle.payload_ops.specs.Known.{constant_in, constant_of, divisor_may_trap, divides, op_may_trap, may_trap}
 use Rattle.payload_ops.specs.Laws.{NeverTraps}
-use Rattle.payload_ops.specs.Payload.{IsPayload, bits_of, is_value, has_type, arg_type, op_fits}
+use Rattle.payload_ops.specs.Payload.{IsPayload, has_type, arg_type, op_fits}
 use Rattle.payload_ops.specs.Shape.{PayloadShape}
 use Rattle.payload_ops.specs.Values.{Given, arg_value, arg_bits, op_value, steps_values}
 use Rattle.payload_ops.specs.declared.kinds.BinOp.{BinOp}
 use Rattle.payload_ops.specs.declared.kinds.BinOp.TheVariants.{Addi, Subi, Muli, Divsi, Divui, Remsi, Remui, Andi, Ori, Xori, Shli, Shrsi, Shrui, Maxsi, Maxui, Minsi, Minui}
-use Rattle.payload_ops.specs.declared.kinds.ElemTy.{ElemTy}
+use Rattle.mlir_base.specs.declared.types.ElemTy.{ElemTy}
 use Rattle.payload_ops.specs.declared.step.Arg.{Arg}
 use Rattle.payload_ops.specs.declared.step.Arg.TheVariants.{Input, Out, Step}
 use Rattle.payload_ops.specs.declared.step.PayloadStep.{PayloadStep}

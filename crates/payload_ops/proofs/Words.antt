@@ -5,12 +5,11 @@ use Rattle.std.proofs.Common.{le_refl, mul-le-mul_left, div-add-mod', ◌≡◌,
 use Rattle.std.specs.Int.{Width, cast_unsigned, cast_signed, IsNonZero, int_wrapping_div}
 use Rattle.std.proofs.lemmas.Int.{ints, int_rem_euclid_is, of_z-to_z}
 use Rattle.std.proofs.lemmas.Bool.{cases_lt}
-use Rattle.std.proofs.lemmas.Nat.{shr_high}
-use lib.Pow.{mod-mod-pow, ones_split, ones_lt}
+use lib.Pow.{mod-mod-pow}
 use mir.Val.{bits}
 use mir.ValLaws.{half_full, to_z-Fits, of_z_fits}
 use lib.Signed.{mag}
-use Rattle.payload_ops.specs.Bits.{reduce, signed_of, minus_one}
+use Rattle.payload_ops.specs.Bits.{reduce, signed_of}
 
 -- the low w bits of the low k bits
 pub low-low : (w k n : ℕ) → w ≤ k → n % 2 ^ k % 2 ^ w ≡ n % 2 ^ w
@@ -25,13 +24,6 @@ pow-split w k h = let whole : (k - w) + w ≡ k = omega arith in sym (pow-add 2 
 
 pub pow-double : (w : ℕ) → 0 < w → 2 ^ w ≡ 2 ^ (w - 1) + 2 ^ (w - 1)
 pow-double w h = let whole : (w - 1) + 1 ≡ w = omega arith in ap (λ m. 2 ^ m) (sym whole) ∙ pow-add 2 (w - 1) 1 ∙ omega arith
-
--- the w bits that are all 1, out of 64
-pub shifted_ones : (w : ℕ) → w ≤ 64 → 18446744073709551615 / 2 ^ (64 - w) ≡ minus_one w
-shifted_ones w h =
-    let whole : w + (64 - w) ≡ 64 = omega arith in
-    let split = ap (λ m. 2 ^ m - 1) (sym whole) ∙ ones_split w (64 - w) in
-    ap (λ n. n / 2 ^ (64 - w)) split ∙ shr_high (2 ^ w - 1) (64 - w) (2 ^ (64 - w) - 1) (ones_lt (64 - w))
 
 -- z plus k times 2 ^ w is the natural m
 pub reduce_is : (w k m : ℕ) (z : ℤ) → z +ℤ pos (k * 2 ^ w) ≡ pos m → reduce w z ≡ m % 2 ^ w

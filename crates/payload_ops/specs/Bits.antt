@@ -3,6 +3,7 @@
 use Rattle.std.specs.Prelude.{◌≡◌, ℕ, ◌+◌, ◌-◌, ◌*◌, ◌/◌, ◌%◌, ◌^◌, max, min, ℤ, pos, ◌-ℤ◌, Bool, true, false, not, ◌&&◌, ◌||◌, nat_lt, nat_le, ◌==◌, Option, Some, None, Result, Ok, Err, if◌then◌else◌, unsigned_abs, int_lt, int_le, bit_and, bit_or, bit_xor}
 use Rattle.std.specs.Int.{int_div_euclid, int_rem_euclid, int_max, int_min}
 use Rattle.std.specs.Int.RustNames.{int_div, int_rem}
+use Rattle.mlir_base.specs.Types.{least_signed, minus_one}
 use Rattle.payload_ops.specs.declared.kinds.Division.{Division}
 use Rattle.payload_ops.specs.declared.kinds.BinOp.{BinOp}
 use Rattle.payload_ops.specs.declared.kinds.BinOp.TheVariants.{Addi, Subi, Muli, Divsi, Divui, Remsi, Remui, Andi, Ori, Xori, Shli, Shrsi, Shrui, Maxsi, Maxui, Minsi, Minui}
@@ -16,13 +17,6 @@ reduce w z = unsigned_abs (int_rem_euclid z (pos (2 ^ w)))
 -- the number that the bits of v stand for in two's complement: v itself below 2^(w-1), and v - 2^w from there on
 unfoldable pub signed_of : ℕ → ℕ → ℤ
 signed_of w v = if nat_lt (v % 2 ^ w) (2 ^ (w - 1)) then pos (v % 2 ^ w) else pos (v % 2 ^ w) -ℤ pos (2 ^ w)
-
--- the least signed value, and -1
-abbrev pub least_signed : ℕ → ℕ
-least_signed w = 2 ^ (w - 1)
-
-abbrev pub minus_one : ℕ → ℕ
-minus_one w = 2 ^ w - 1
 
 -- a division or remainder by 0 traps
 abbrev pub unless : Bool → ℕ → Option ℕ

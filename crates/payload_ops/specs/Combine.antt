@@ -3,7 +3,8 @@
 use Rattle.std.specs.Prelude.{ℕ, suc, ◌-◌, ◌==◌, ℤ, Bool, true, false, not, ◌&&◌, List, [], take, drop, Option, Some, None, if◌then◌else◌, slice_get}
 use Rattle.std.specs.List.{list_all}
 use Rattle.std.specs.Option.{option_map, option_and_then, option_map_or}
-use Rattle.payload_ops.specs.Bits.{binary_of, least_signed, minus_one}
+use Rattle.payload_ops.specs.Bits.{binary_of}
+use Rattle.mlir_base.specs.Types.{least_signed, minus_one}
 use Rattle.payload_ops.specs.Shape.{PayloadShape}
 use Rattle.payload_ops.specs.Values.{Given, arg_value, steps_values}
 use Rattle.payload_ops.specs.declared.kinds.BinOp.{BinOp}

@@ -2,15 +2,15 @@
 use Rattle.std.specs.Prelude.{ℕ, ◌%◌, ◌^◌, ◌==◌, Bool, true, false, ◌&&◌, ◌||◌, List, [], ◌∷◌, ◌++◌, Option, Some, None, if◌then◌else◌, slice_get}
 use Rattle.std.specs.List.{list_any}
 use Rattle.std.specs.Option.{option_map, option_and_then}
-use Rattle.payload_ops.specs.Bits.{reduce, signed_of, binary_of, compares, minus_one}
+use Rattle.payload_ops.specs.Bits.{reduce, signed_of, binary_of, compares}
+use Rattle.mlir_base.specs.Types.{minus_one, bits_of}
 use Rattle.payload_ops.specs.Combine.{combining, neutral_of}
-use Rattle.payload_ops.specs.Payload.{bits_of}
 use Rattle.payload_ops.specs.Shape.{PayloadShape}
 use Rattle.payload_ops.specs.Values.{arg_bits, bit_of}
 use Rattle.payload_ops.specs.declared.kinds.BinOp.{BinOp}
 use Rattle.payload_ops.specs.declared.kinds.BinOp.TheVariants.{Muli, Divsi, Divui, Remsi, Remui, Andi, Ori, Shli, Shrsi, Shrui}
 use Rattle.payload_ops.specs.declared.kinds.Combiner.{Combiner}
-use Rattle.payload_ops.specs.declared.kinds.ElemTy.{ElemTy}
+use Rattle.mlir_base.specs.declared.types.ElemTy.{ElemTy}
 use Rattle.payload_ops.specs.declared.step.Arg.{Arg}
 use Rattle.payload_ops.specs.declared.step.Arg.TheVariants.{Input, Out, Step}
 use Rattle.payload_ops.specs.declared.step.PayloadStep.{PayloadStep}

@@ -2,7 +2,7 @@
 use Rattle.std.specs.Prelude.{◌≡◌, ◌≢◌, ℕ, ◌<◌, ◌^◌, List, Option, Some, None, slice_get, slice_index_or}
 use Rattle.std.specs.Option.{option_map}
 use Rattle.payload_ops.specs.Combine.{joined, value_after}
-use Rattle.payload_ops.specs.Payload.{bits_of}
+use Rattle.mlir_base.specs.Types.{bits_of}
 use Rattle.payload_ops.specs.Shape.{PayloadShape}
 use Rattle.payload_ops.specs.Values.{Given, payload_value}
 use Rattle.payload_ops.specs.declared.kinds.Combiner.{Combiner}

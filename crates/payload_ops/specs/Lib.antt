@@ -3,8 +3,6 @@ pub mod Combine
 pub mod Evaluation
 pub mod Known
 pub mod Laws
-pub mod Numbers
 pub mod Payload
 pub mod Shape
 pub mod Values
-pub mod formers

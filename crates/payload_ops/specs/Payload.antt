@@ -3,30 +3,16 @@
 use Rattle.std.specs.Prelude.{ℕ, ℤ, ◌^◌, Bool, true, false, ◌&&◌, nat_lt, ◌==◌, IsTrue, List, [], ◌∷◌, ◌++◌, Option, Some, None, slice_get, not}
 use Rattle.std.specs.List.{list_all}
 use Rattle.std.specs.Option.{option_map}
-use Rattle.payload_ops.specs.Numbers.{is_in_range, is_coefficient}
+use Rattle.mlir_base.specs.Types.{is_value, is_elem}
+use Rattle.mlir_base.specs.Numbers.{is_in_range, is_coefficient}
 use Rattle.payload_ops.specs.Shape.{PayloadShape}
-use Rattle.payload_ops.specs.declared.kinds.ElemTy.{ElemTy}
-use Rattle.payload_ops.specs.declared.kinds.ElemTy.TheVariants.{Int, Index as IndexType}
+use Rattle.mlir_base.specs.declared.types.ElemTy.{ElemTy}
+use Rattle.mlir_base.specs.declared.types.ElemTy.TheVariants.{Int, Index as IndexType}
 use Rattle.payload_ops.specs.declared.step.Arg.{Arg}
 use Rattle.payload_ops.specs.declared.step.Arg.TheVariants.{Input, Out, Step}
 use Rattle.payload_ops.specs.declared.step.PayloadStep.{PayloadStep}
 use Rattle.payload_ops.specs.declared.step.StepOp.{StepOp}
 use Rattle.payload_ops.specs.declared.step.StepOp.TheVariants.{Const, Index, Captured, Linear, Binary, Compare, Select, SignExtend, ZeroExtend, Truncate, IndexCast}
-
--- the bits of a type's values; `index` has 64
-abbrev pub bits_of : ElemTy → ℕ
-bits_of (Int w) = w
-bits_of IndexType = 64
-
-abbrev pub is_value : ElemTy → ℕ → Bool
-is_value t v = nat_lt v (2 ^ bits_of t)
-
--- the same type
-abbrev pub is_elem : ElemTy → ElemTy → Bool
-is_elem (Int v) (Int w) = v == w
-is_elem (Int v) IndexType = false
-is_elem IndexType (Int w) = false
-is_elem IndexType IndexType = true
 
 -- the type of what an argument names, where it names anything
 abbrev pub arg_type : List ElemTy → ElemTy → List PayloadStep → Arg → Option ElemTy

@@ -1,6 +1,6 @@
 -- The data of a payload.
 use Rattle.std.specs.Prelude.{List}
-use Rattle.payload_ops.specs.declared.kinds.ElemTy.{ElemTy}
+use Rattle.mlir_base.specs.declared.types.ElemTy.{ElemTy}
 use Rattle.payload_ops.specs.declared.step.Arg.{Arg}
 use Rattle.payload_ops.specs.declared.step.PayloadStep.{PayloadStep}
 

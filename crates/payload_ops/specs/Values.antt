@@ -3,9 +3,10 @@ use Rattle.std.specs.Prelude.{ℕ, ◌%◌, ◌^◌, ◌==◌, length, ℤ, pos,
 use Rattle.std.specs.List.{list_all}
 use Rattle.std.specs.Option.{option_map, option_and_then, option_map_or}
 use Rattle.payload_ops.specs.Bits.{reduce, signed_of, binary_of, compares}
-use Rattle.payload_ops.specs.Payload.{bits_of, is_value, arg_type}
+use Rattle.mlir_base.specs.Types.{bits_of, is_value}
+use Rattle.payload_ops.specs.Payload.{arg_type}
 use Rattle.payload_ops.specs.Shape.{PayloadShape}
-use Rattle.payload_ops.specs.declared.kinds.ElemTy.{ElemTy}
+use Rattle.mlir_base.specs.declared.types.ElemTy.{ElemTy}
 use Rattle.payload_ops.specs.declared.step.Arg.{Arg}
 use Rattle.payload_ops.specs.declared.step.Arg.TheVariants.{Input, Out, Step}
 use Rattle.payload_ops.specs.declared.step.PayloadStep.{PayloadStep}

@@ -1,7 +1,8 @@
 ghost use Rattle.std.specs.Prelude.{◌≡◌, ◌%◌, ◌^◌, ◌<◌, ◌≤◌};
-ghost use Rattle.payload_ops.specs.Bits.{reduce, signed_of, least_signed, minus_one, compares};
+ghost use Rattle.payload_ops.specs.Bits.{reduce, signed_of, compares};
 
-use crate::kinds::{Predicate, Width};
+use crate::kinds::Predicate;
+use mlir_base::{Width, all_ones, sign_bit};
 
 /// The value of the width that is congruent to `n` modulo 2^N, where N is the width's bits.
 pub fn wrap(w: Width, n: i128) -> u64
@@ -42,22 +43,6 @@ pub fn compare(predicate: Predicate, w: Width, a: u64, b: u64) -> bool
         Predicate::Ugt => a > b,
         Predicate::Uge => a >= b,
     }
-}
-
-/// The greatest value of the width, which reads -1.
-pub fn all_ones(w: Width) -> u64
-    ensures value { result ≡ minus_one w }
-    ensures width { w ≤ 64 }
-{
-    u64::MAX >> (64 - w.bits())
-}
-
-/// The value of the width whose only bit is the sign, which reads the least number.
-pub fn sign_bit(w: Width) -> u64
-    ensures value { result ≡ least_signed w }
-    ensures width { (0 < w) × (w ≤ 64) }
-{
-    1 << (w.bits() - 1)
 }
 
 /// The value of the width that is congruent to `v`.

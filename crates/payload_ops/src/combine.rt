@@ -2,10 +2,10 @@ ghost use Rattle.std.specs.Prelude.{◌≡◌, ◌^◌, ◌<◌};
 ghost use Rattle.std.specs.List.{list_all};
 ghost use Rattle.payload_ops.specs.Combine.{combiner_of_operation, neutral_of, avoids, op_avoids, steps_avoid, other_than_out, joins, joins_at, combining, combiner_of};
 
-use crate::bits::{all_ones, sign_bit};
-use crate::kinds::{BinOp, Combiner, Width};
+use crate::kinds::{BinOp, Combiner};
 use crate::payloads::Payload;
 use crate::step::{Arg, PayloadStep, StepOp};
+use mlir_base::{Width, all_ones, sign_bit};
 
 /// How a payload joins the output's element with a term, so that a reduction by it may be folded in
 /// any order (Linalg manual, "linalg.generic"). `Some` exactly where the yielded step is one of the
@@ -158,11 +158,10 @@ fn avoids(place: u32, arg: Arg) -> bool
 #[cfg(test)]
 mod tests {
     use super::{combiner, neutral};
-    use crate::kinds::{BinOp, Combiner, ElemTy, Width};
-    use crate::list::List;
-    use crate::memory::Memory;
+    use crate::kinds::{BinOp, Combiner};
     use crate::payloads::parts::payload;
     use crate::step::{Arg, PayloadStep, StepOp};
+    use mlir_base::{ElemTy, List, Memory, Width};
     use std::alloc::Global;
 
     const OUT: Arg = Arg::Out;

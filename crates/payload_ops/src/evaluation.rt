@@ -1,15 +1,17 @@
 ghost use Rattle.std.specs.Prelude.{◌≡◌, ◌%◌, ◌^◌, ◌<◌, ◌≤◌, pos, ◌+ℤ◌, ◌*ℤ◌, IsTrue, IfOk, IsSome, length, take, slice_index};
 ghost use Rattle.std.specs.List.{list_all};
 ghost use Rattle.payload_ops.specs.Bits.{reduce, signed_of, Gives};
-ghost use Rattle.payload_ops.specs.Payload.{arg_type, is_value, term_fits};
+ghost use Rattle.payload_ops.specs.Payload.{arg_type, term_fits};
+ghost use Rattle.mlir_base.specs.Types.{is_value};
 ghost use Rattle.payload_ops.specs.Values.{arg_value, arg_bits, terms_sum, step_value, payload_value, IsGiven};
 ghost use Rattle.payload_ops.specs.Evaluation.{given_of, IsReady, IsNext};
 
 use crate::bits::{compare, low_bits, signed, wrap_signed};
-use crate::kinds::{Division, Width};
+use crate::kinds::Division;
 use crate::operations::binary;
 use crate::payloads::Payload;
 use crate::step::{Arg, PayloadStep, StepOp};
+use mlir_base::Width;
 
 /// A payload, and what it is given at one point.
 #[derive(Drop)]

@@ -1,10 +1,10 @@
 ghost use Rattle.std.specs.Prelude.{◌≡◌, []};
 ghost use Rattle.std.specs.List.{list_all};
-ghost use Rattle.payload_ops.specs.Payload.{is_elem, arg_type, has_type, is_value, term_fits, op_fits, steps_fit, have_one_type, is_narrower, is_widening, is_narrowing, is_cast};
+ghost use Rattle.mlir_base.specs.Types.{is_elem, is_value};
+ghost use Rattle.payload_ops.specs.Payload.{arg_type, has_type, term_fits, op_fits, steps_fit, have_one_type, is_narrower, is_widening, is_narrowing, is_cast};
 
-use crate::kinds::ElemTy;
-use crate::numbers::{is_coefficient, is_in_range};
 use crate::step::{Arg, PayloadStep, StepOp};
+use mlir_base::{ElemTy, is_coefficient, is_in_range};
 
 /// What the arguments of a step may name.
 #[derive(Drop)]

@@ -1,10 +1,10 @@
 ghost use Rattle.std.specs.Prelude.{◌≡◌};
 ghost use Rattle.payload_ops.specs.Known.{constant_in, constant_of, divisor_may_trap, divides, op_may_trap, may_trap};
 
-use crate::bits::all_ones;
-use crate::kinds::{BinOp, ElemTy, Width};
+use crate::kinds::BinOp;
 use crate::payloads::Payload;
 use crate::step::{Arg, PayloadStep, StepOp};
+use mlir_base::{ElemTy, Width, all_ones};
 
 /// Tells whether some values could make a step trap. True exactly where a division or remainder has a
 /// divisor that is no constant, or that is 0, or where `Divsi` has the divisor -1
@@ -78,11 +78,10 @@ fn constant_in(op: &StepOp) -> Option<u64>
 #[cfg(test)]
 mod tests {
     use super::can_trap;
-    use crate::kinds::{BinOp, ElemTy, Width};
-    use crate::list::List;
-    use crate::memory::Memory;
+    use crate::kinds::BinOp;
     use crate::payloads::parts::payload;
     use crate::step::{Arg, PayloadStep, StepOp};
+    use mlir_base::{ElemTy, List, Memory, Width};
     use std::alloc::Global;
 
     /// Whether an operation on the one input of 8 bits and `divisor`, where step 0 is a constant,

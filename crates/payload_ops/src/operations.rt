@@ -2,8 +2,9 @@ ghost use Rattle.std.specs.Prelude.{◌≡◌, ◌^◌, ◌<◌, IfOk};
 ghost use Rattle.payload_ops.specs.Bits.{quotient_traps, shifted_left, shifted_right, sign_shifted, on_values, binary_of, Gives};
 ghost use Rattle.payload_ops.specs.declared.kinds.BinOp.TheVariants.{Divsi, Divui, Remsi, Remui};
 
-use crate::bits::{all_ones, low_bits, sign_bit, signed, wrap_signed};
-use crate::kinds::{BinOp, Division, Width};
+use crate::bits::{low_bits, signed, wrap_signed};
+use crate::kinds::{BinOp, Division};
+use mlir_base::{Width, all_ones, sign_bit};
 
 /// The operation on two values of the width (Arith manual), which gives a value of the width.
 /// `Division` comes exactly where a divisor is 0, or where `Divsi` divides the least value by -1. A

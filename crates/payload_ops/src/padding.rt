@@ -2,15 +2,17 @@ ghost use Rattle.std.specs.Prelude.{◌≡◌, ◌≤◌, ◌%◌, ◌^◌, [], 
 ghost use Rattle.std.specs.Option.{option_map, option_and_then};
 ghost use Rattle.payload_ops.specs.Bits.{binary_of, compares, reduce, signed_of};
 ghost use Rattle.payload_ops.specs.Known.{known_arg, known_first, known_second, known_binary, agreed, known_select, known_compare, known_op, known_steps, where_true, is_known_as, is_neutral_under};
-ghost use Rattle.payload_ops.specs.Payload.{bits_of, arg_type};
+ghost use Rattle.mlir_base.specs.Types.{bits_of};
+ghost use Rattle.payload_ops.specs.Payload.{arg_type};
 ghost use Rattle.payload_ops.specs.Values.{arg_bits, bit_of};
 
-use crate::bits::{all_ones, compare, low_bits, signed, wrap_signed};
+use crate::bits::{compare, low_bits, signed, wrap_signed};
 use crate::combine::{combining, neutral};
-use crate::kinds::{BinOp, Division, ElemTy, Predicate, Width};
+use crate::kinds::{BinOp, Division, Predicate};
 use crate::operations::binary;
 use crate::payloads::Payload;
 use crate::step::{Arg, StepOp};
+use mlir_base::{ElemTy, Width, all_ones};
 
 /// Tells whether the term of a payload with a combiner is known to be the combiner's neutral element
 /// where only some inputs are known: `pads` has one entry for each input, a value of its type or
@@ -264,11 +266,10 @@ fn agreed(a: Option<u64>, b: Option<u64>) -> Option<u64>
 #[cfg(test)]
 mod tests {
     use super::neutral_under;
-    use crate::kinds::{BinOp, ElemTy, Width};
-    use crate::list::List;
-    use crate::memory::Memory;
+    use crate::kinds::BinOp;
     use crate::payloads::parts::payload;
     use crate::step::{Arg, PayloadStep, StepOp};
+    use mlir_base::{ElemTy, List, Memory, Width};
     use std::alloc::Global;
 
     /// Whether what the first step makes of two inputs of 8 bits and one of 1 bit is neutral, where

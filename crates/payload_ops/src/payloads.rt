@@ -1,9 +1,8 @@
 ghost use Rattle.std.specs.Prelude.{◌≡◌};
 ghost use Rattle.payload_ops.specs.Payload.{IsPayload};
 
-use crate::kinds::ElemTy;
-use crate::list::List;
 use crate::step::{Arg, PayloadStep};
+use mlir_base::{ElemTy, List};
 use std::marker::Model;
 
 pub mod parts;

@@ -1,5 +1,5 @@
-use crate::kinds::{BinOp, ElemTy, Predicate};
-use crate::list::List;
+use crate::kinds::{BinOp, Predicate};
+use mlir_base::{ElemTy, List};
 
 /// What an argument of a step names: an input by its number, the output's element before the
 /// operation, or an earlier step by its number.

@@ -3,7 +3,7 @@ use Rattle.std.proofs.Common.{◌≡◌, ◌<◌, ◌≤◌, ◌^◌, ◌-◌, �
 use Rattle.std.proofs.lemmas.Bool.{ltb-false, lt-leb, lt-ltb, le-leb, le-ltb, ne_eqb, cond-false}
 use Rattle.std.proofs.Math.Pow.{pow_mono}
 use Rattle.std.proofs.Math.Seq.{drop-cons}
-use Rattle.payload_ops.specs.Bits.{minus_one, least_signed}
+use Rattle.mlir_base.specs.Types.{minus_one, least_signed}
 use Rattle.text_format.specs.Token.{TokenShape}
 use Rattle.script_read.specs.Resolve.{is_count_by}
 use Rattle.script_read.specs.Numbers.{number_from, word_of, is_size, is_literal}

@@ -1,6 +1,6 @@
 -- The numbers of a script (MLIR LangRef, "Common syntax"; Builtin dialect, "IntegerAttr").
 use Rattle.std.specs.Prelude.{ℕ, ◌+◌, ◌*◌, ◌-◌, ◌^◌, zero, suc, Bool, nat_eq, nat_le, nat_lt, ℤ, pos, negsuc, List, [], ◌∷◌, Result, Ok, Err, Option, Some, None, if◌then◌else◌}
-use Rattle.payload_ops.specs.Bits.{minus_one, least_signed}
+use Rattle.mlir_base.specs.Types.{minus_one, least_signed}
 use Rattle.text_format.specs.Token.{TokenShape}
 use Rattle.text_format.specs.Types.{width_of}
 use Rattle.mlir_lex.specs.declared.fault.Fault.{Fault}

@@ -2,7 +2,7 @@
 -- Handles are numbered 0, 1 and so on in the order in which they are defined.
 use Rattle.std.specs.Prelude.{ℕ, zero, suc, ◌-◌, Bool, true, false, ◌&&◌, List, [], ◌∷◌, length, Result, Ok, Err, nat_eq, nat_le, nat_lt}
 use Rattle.text_format.specs.Token.{TokenShape}
-use Rattle.mlir_ir.specs.declared.tree.Which.TheVariants as limits
+use Rattle.mlir_base.specs.declared.limit.Which.TheVariants as limits
 use Rattle.mlir_lex.specs.declared.fault.Fault.{Fault}
 use Rattle.mlir_lex.specs.declared.fault.Fault.TheVariants.{Syntax, Number, Limit}
 use Rattle.mlir_lex.specs.Chain.{and_then, demand, thread}

@@ -12,8 +12,8 @@ use crate::handles::handle;
 use crate::names::Names;
 use crate::numbers::{read_pad_value, read_sizes};
 use crate::script::{HandleId, PadArgs, StepKind};
+use mlir_base::{List, Memory, Name, Width};
 use mlir_lex::{Fault, Refused};
-use payload_ops::{List, Memory, Name, Width};
 use script_syntax::{
     FuseStep, HandleStep, ManyResults, MatchStep, Multiples, OneResult, PadStep, PadValue,
     QuotedName, Signed, SizedStep, ThreeResults, TileForStep, TwoResults, VectorSizes,

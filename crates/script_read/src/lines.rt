@@ -14,9 +14,8 @@ use crate::kinds::{
 use crate::names::{Meaning, Names, Scope};
 use crate::numbers::number_of;
 use crate::script::{HandleId, Script, Step, StepKind};
-use mlir_ir::Which;
+use mlir_base::{List, Memory, Which};
 use mlir_lex::{Fault, Refused};
-use payload_ops::{List, Memory};
 use script_syntax::{
     BehindFirst, BehindSecond, BehindThird, Further, Group, GroupStep, GroupTypes, Line,
     ManyResults, NextResult, NextType, OneResult, Sequence, ThreeResults, TwoResults,

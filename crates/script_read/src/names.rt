@@ -4,7 +4,7 @@ ghost use Rattle.std.specs.Prelude.{◌≡◌, ◌<◌, ◌==◌, ◌∷◌, ◌
 ghost use Rattle.std.specs.List.{position_from};
 ghost use Rattle.script_read.specs.Names.{find, entry, parted};
 
-use payload_ops::Memory;
+use mlir_base::Memory;
 use std::alloc::Global;
 use std::collections::HashMap;
 use std::marker::Model;

@@ -4,8 +4,8 @@ ghost use Rattle.std.specs.Prelude.{◌≡◌, ◌≤◌, IsTrue};
 ghost use Rattle.mlir_lex.specs.Chain.{Agree};
 ghost use Rattle.script_read.specs.Numbers.{number_of, word_of, start_of, is_size, size_of, sizes_of, signed_by, is_literal, pad_value_of};
 
+use mlir_base::{List, Width, all_ones, sign_bit};
 use mlir_lex::{Fault, Refused};
-use payload_ops::{List, Width, all_ones, sign_bit};
 use script_syntax::{PadValue, Signed};
 use std::alloc::Global;
 use text_format::{Token, width_of};

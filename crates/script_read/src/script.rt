@@ -1,6 +1,6 @@
 //! Scripts.
 
-use payload_ops::{List, Name, Width};
+use mlir_base::{List, Name, Width};
 
 /// A handle, by its number.
 #[derive(Clone, Copy, Debug, PartialEq, Eq)]

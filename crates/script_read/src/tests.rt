@@ -1,7 +1,7 @@
 //! One script with each step, scripts with one fault each, and the limit on steps.
 
 use super::*;
-use mlir_ir::Which;
+use mlir_base::Which;
 use mlir_lex::{ReadError, tokens};
 use std::alloc::Global;
 use std::test::Fail;

@@ -6,7 +6,7 @@ use Rattle.std.proofs.lemmas.Bool.{le-leb, lt-ltb, eq-eqb}
 use Rattle.std.proofs.lemmas.List.{take_at, append-nil}
 use Rattle.std.proofs.Math.Pow.{pow_mono}
 use Rattle.std.proofs.Math.Nat.{one-le-pow}
-use Rattle.payload_ops.specs.Bits.{minus_one, least_signed}
+use Rattle.mlir_base.specs.Types.{minus_one, least_signed}
 use Rattle.text_format.specs.declared.front.Kind.TheVariants.{Value}
 use Rattle.text_format.specs.Numerals.{numeral}
 use Rattle.text_format.specs.Pieces.{bytes_of}

@@ -1,7 +1,7 @@
 -- The scripts whose canonical text reads back: those that some text stands for, up to the numbers of handles.
 use Rattle.std.specs.Prelude.{◌≡◌, ◌<◌, ◌≤◌, true, ℕ, suc, ℤ, pos, negsuc, List, [], ◌∷◌, ◌++◌, length, Ok, Option, Some, None}
 use Rattle.std.specs.List.{AllByRecursion}
-use Rattle.payload_ops.specs.Bits.{minus_one, least_signed}
+use Rattle.mlir_base.specs.Types.{minus_one, least_signed}
 use Rattle.text_format.specs.declared.span.Span.{Span}
 use Rattle.text_format.specs.Tokens.{tokens_of}
 use Rattle.script_read.specs.declared.script.HandleId.{HandleId}

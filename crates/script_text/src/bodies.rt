@@ -8,7 +8,7 @@ ghost use Rattle.script_text.specs.Texts.{numbers_text, list_text, value_text, v
 
 use crate::names::{Given, Rows};
 use itoa::Buffer;
-use payload_ops::{List, Memory, Name, Width};
+use mlir_base::{List, Memory, Name, Width};
 use script_read::{HandleId, PadArgs, StepKind};
 
 /// What no text spells.

@@ -3,7 +3,7 @@
 ghost use Rattle.std.specs.Prelude.{◌≡◌, ◌∷◌, ◌++◌, [], IfOk, OnOk, option_copied};
 ghost use Rattle.script_text.specs.Names.{look, row, start, parts, rows_of};
 
-use payload_ops::Memory;
+use mlir_base::Memory;
 use script_read::HandleId;
 use std::alloc::Global;
 use std::collections::HashMap;

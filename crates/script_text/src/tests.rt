@@ -1,8 +1,8 @@
 //! Canonical texts, and what they read back as.
 
 use super::*;
+use mlir_base::{List, Name, all_ones};
 use mlir_lex::{ReadError, tokens};
-use payload_ops::{List, Name, all_ones};
 use std::alloc::Global;
 use std::test::Fail;
 

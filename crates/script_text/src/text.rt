@@ -8,7 +8,7 @@ ghost use Rattle.script_text.specs.Texts.{results_text, kind_text, step_text, ne
 
 use crate::bodies::{write_count, write_given, write_group, write_none, write_one, write_repeated};
 use crate::names::{Given, Rows, start};
-use payload_ops::{List, Memory};
+use mlir_base::{List, Memory};
 use script_read::{HandleId, Script, Step, StepKind};
 use std::alloc::Global;
 

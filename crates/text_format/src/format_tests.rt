@@ -9,7 +9,7 @@ ghost use Rattle.text_format.specs.Exact.{leaf-exact, ◌▹◌, ◌⊠◌, reco
 ghost use Rattle.text_format.specs.Many.{list-exact, optional-exact, many-exact, many_avoids};
 
 use super::*;
-use payload_ops::{List, Memory};
+use mlir_base::{List, Memory};
 use std::alloc::Global;
 use std::test::*;
 

@@ -8,7 +8,7 @@ use crate::class::Class;
 use crate::lexeme::Lexeme;
 use crate::parser::Parser;
 use crate::token::Token;
-use payload_ops::{List, Memory};
+use mlir_base::{List, Memory};
 use std::alloc::Global;
 
 /// A tree with a format, which says how it is spelled and read.

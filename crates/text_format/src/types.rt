@@ -7,7 +7,7 @@ ghost use Rattle.text_format.specs.declared.types.Part.TheVariants.{Start};
 ghost use Rattle.text_format.specs.Types.{one_digit, two_digits, width_of, element_of, least_extent, extent_of, is_shaped, inside, number_at, is_some, begins_with_digit, begins_with_x, extents_in, extents_of, ranked_from, is_word, is_type_word, after_byte, element_at, is_other_element, has_other_element, is_any_tensor};
 
 use crate::front::{is_digit, is_letter, is_word_byte};
-use payload_ops::{ElemTy, List, Memory, Width};
+use mlir_base::{ElemTy, List, Memory, Width};
 use std::alloc::Global;
 
 /// An extent that a text writes.

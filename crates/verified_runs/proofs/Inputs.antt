@@ -4,17 +4,19 @@ use Rattle.std.specs.Prelude.{⊤}
 use Rattle.std.specs.List.{list_all, zip}
 use Rattle.std.proofs.lemmas.Bool.{and_parts, and_from}
 use Rattle.affine_maps.specs.Shape.{MapShape}
-use Rattle.payload_ops.specs.Payload.{bits_of, arg_type, IsPayload}
+use Rattle.mlir_base.specs.Types.{bits_of}
+use Rattle.payload_ops.specs.Payload.{arg_type, IsPayload}
 use Rattle.payload_ops.specs.Shape.{PayloadShape}
 use Rattle.payload_ops.specs.Values.{Given, arg_value, steps_values, payload_value, values_fit}
-use Rattle.payload_ops.specs.declared.kinds.ElemTy.{ElemTy}
-use Rattle.payload_ops.specs.declared.kinds.ElemTy.TheVariants.{Int, Index}
+use Rattle.mlir_base.specs.declared.types.ElemTy.{ElemTy}
+use Rattle.mlir_base.specs.declared.types.ElemTy.TheVariants.{Int, Index}
 use Rattle.payload_ops.proofs.InType.{lt-value, has_type-bits, arg_value-lt, steps_values-fit}
 use Rattle.mlir_ir.specs.declared.tree.Extent.{Extent}
 use Rattle.mlir_ir.specs.declared.tree.Ty.{Ty}
 use Rattle.mlir_ir.specs.declared.tree.Ty.TheVariants.{Scalar, Tensor, Vector}
 use Rattle.mlir_ir.specs.declared.tree.ValueId.{ValueId}
-use Rattle.mlir_meaning.specs.Grids.{Each, place}
+use Rattle.mlir_meaning.specs.Grids.{Each}
+use Rattle.mlir_meaning.proofs.Grids.{at-each}
 use Rattle.mlir_meaning.specs.Points.{map_point}
 use Rattle.mlir_meaning.specs.States.{element}
 use Rattle.mlir_meaning.specs.declared.values.Datum.{Datum}
@@ -36,13 +38,8 @@ AllRead [] [] = ⊤
 AllRead (e ∷ es) (d ∷ ds) = Reads e d × AllRead es ds
 AllRead _ _ = ⊥
 
-each_at : (w : ℕ) (cells : List ℕ) → Each (λ c. c < 2 ^ w) cells → (k : ℕ) → get_or cells k 0 < 2 ^ w
-each_at w [] h k = pow_pos w
-each_at w (c ∷ cells) h zero = h.0
-each_at w (c ∷ cells) h (suc k) = each_at w cells h.1 k
-
 pub tensor_reads : (es : List Extent) (w : ℕ) (d : Datum) → Holds (Tensor es w) d → Reads (Int w) d
-tensor_reads es w (Cells v g) h p = each_at w g.cells h.2.1 (place g.extents p)
+tensor_reads es w (Cells v g) h p = at-each (λ c. c < 2 ^ w) g h.2.1 (pow_pos w) p
 tensor_reads es w (Number n) h p = absurd h
 tensor_reads es w (Bits b) h p = absurd h
 

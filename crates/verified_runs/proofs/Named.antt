@@ -50,13 +50,13 @@ rank_is (Some (Scalar e)) d t h = absurd cc
 rank_is (Some (Vector es w)) d t h = absurd cc
 rank_is None d t h = absurd cc
 
-alike_tensor : (o p : Option Ty) → is_alike o p ≡ true → tensors.is_tensor o ≡ true
+pub alike_tensor : (o p : Option Ty) → is_alike o p ≡ true → tensors.is_tensor o ≡ true
 alike_tensor (Some (Tensor es w)) p h = refl
 alike_tensor (Some (Scalar e)) p h = absurd cc
 alike_tensor (Some (Vector es w)) p h = absurd cc
 alike_tensor None p h = absurd cc
 
-wide_tensor : (o p : Option Ty) → are_as_wide o p ≡ true → tensors.is_tensor o ≡ true
+pub wide_tensor : (o p : Option Ty) → are_as_wide o p ≡ true → tensors.is_tensor o ≡ true
 wide_tensor (Some (Tensor es w)) p h = refl
 wide_tensor (Some (Scalar e)) p h = absurd cc
 wide_tensor (Some (Vector es w)) p h = absurd cc

@@ -11,7 +11,7 @@ use Rattle.affine_maps.specs.Map.{map_fits, dimension, dimensions, identity_of}
 use Rattle.affine_maps.specs.Permutation.{is_among, repeats, is_projected_permutation}
 use Rattle.payload_ops.specs.Payload.{payload_fits}
 use Rattle.payload_ops.specs.Shape.{PayloadShape}
-use Rattle.payload_ops.specs.declared.kinds.ElemTy.TheVariants.{Int, Index}
+use Rattle.mlir_base.specs.declared.types.ElemTy.TheVariants.{Int, Index}
 use Rattle.payload_ops.specs.declared.kinds.BinOp.TheVariants.{Addi, Muli, Andi, Ori}
 use Rattle.payload_ops.specs.declared.step.Arg.TheVariants.{Input, Out, Step}
 use Rattle.payload_ops.specs.declared.step.PayloadStep.{PayloadStep}
@@ -33,7 +33,7 @@ use Rattle.mlir_verify.specs.Named.{is_element, is_at_most_as_wide, are_axes}
 use Rattle.mlir_verify.specs.Types.{names_present, is_input, is_typed}
 use Rattle.mlir_verify.specs.Maps.{Axis, axis, axes, extent_of, is_not_negative, fits_operand, fit_operands, cover_dimensions, breaks_maps, match_output, breaks_iterators}
 use Rattle.mlir_verify.specs.Extents.{is_same_extent, has_extent, are_same_extents, has_extents_of, is_product, is_batch_product, is_transposed, is_broadcast, axes_agree, keeps_extents, breaks_extents}
-use Rattle.mlir_verify.specs.Windows.{inputs_stay_in, breaks_windows}
+use Rattle.mlir_verify.specs.Windows.{has_no_points, operand_stays_in, inputs_stay_in, breaks_windows}
 use Rattle.mlir_verify.proofs.Broadcasts.{extents_from, named_is_left_out, other_is_kept, same_first}
 use Rattle.verified_runs.specs.Forms.{Structured, kind_of, width_in, structured_of, is_generic}
 use Rattle.verified_runs.proofs.Orders.{has_each}
@@ -93,14 +93,15 @@ at_place : (order : List ℕ) (xs ys : List Extent) (k p : ℕ) → is_transpose
     (j : ℕ) × (place_of k p order ≡ p + j) × (slice_get ys j ≡ slice_get xs k)
 at_place [] xs ys k p h l a = absurd cc
 at_place (n ∷ order) xs [] k p h l a = absurd (omega arith)
-at_place (n ∷ order) xs (y ∷ ys) k p h l a = by_test (n == k) refl a where
-  both : (has_extent (slice_get xs n) y ≡ true) × (is_transposed order xs ys ≡ true)
-  both = and_parts (has_extent (slice_get xs n) y) _ h
-  by_test : (b : Bool) → (n == k) ≡ b → (b || is_among k order) ≡ true →
+at_place (n ∷ order) xs (y ∷ ys) k p h l a =
+    let both : (has_extent (slice_get xs n) y ≡ true) × (is_transposed order xs ys ≡ true) = and_parts (has_extent (slice_get xs n) y) _ h in
+    by_test (n == k) refl both.0 (λ c. at_place order xs ys k (p + 1) both.1 (omega arith) c) a where
+  by_test : (b : Bool) → (n == k) ≡ b → has_extent (slice_get xs n) y ≡ true →
+      (is_among k order ≡ true → (j : ℕ) × (place_of k (p + 1) order ≡ p + 1 + j) × (slice_get ys j ≡ slice_get xs k)) → (b || is_among k order) ≡ true →
       (j : ℕ) × ((if b then p else place_of k (p + 1) order) ≡ p + j) × (slice_get (y ∷ ys) j ≡ slice_get xs k)
-  by_test true e c = (0, omega arith, sym (has_is (slice_get xs n) y both.0) ∙ ap (slice_get xs) (eqb-true n k e))
-  by_test false e c =
-      let r = at_place order xs ys k (p + 1) both.1 (omega arith) c in
+  by_test true e here later c = (0, omega arith, sym (has_is (slice_get xs n) y here) ∙ ap (slice_get xs) (eqb-true n k e))
+  by_test false e here later c =
+      let r = later c in
       (suc r.0, (let q = r.1 in omega (arith, q)), r.2)
 
 -- THE AXES OF A BROADCAST
@@ -110,21 +111,19 @@ module _ (ys : List Extent) (fixed : list_all is_fixed ys ≡ true) where
       Each (Right ys fixed) (zip (kept named a (count_up a (length zs))) xs) × (length (kept named a (count_up a (length zs))) ≡ length xs)
   broadcast_right named a [] [] h k = (tt, refl)
   broadcast_right named a [] (x ∷ xs) h k = absurd (let e = eqb-true 0 (length (x ∷ xs)) (and_parts (0 == length (x ∷ xs)) _ h).0 in omega (arith, e))
-  broadcast_right named a (z ∷ zs) xs h k = by_test (is_among a named) refl where
-    later : (d : ℕ) (x : Extent) → slice_get zs d ≡ Some x → slice_get ys (a + 1 + d) ≡ Some x
-    later d x e = ap (slice_get ys) (let q : a + 1 + d ≡ a + suc d = omega arith in q) ∙ k (suc d) x e
-    rest : List ℕ
-    rest = kept named (a + 1) (count_up (a + 1) (length zs))
-    there : (xs : List Extent) → are_same_extents (z ∷ extents_from named (a + 1) zs) xs ≡ true → Each (Right ys fixed) (zip (a ∷ rest) xs) × (length (a ∷ rest) ≡ length xs)
-    there [] h = absurd (let e = eqb-true (length (z ∷ extents_from named (a + 1) zs)) 0 (and_parts (length (z ∷ extents_from named (a + 1) zs) == 0) _ h).0 in omega (arith, e))
-    there (x ∷ xs) h =
+  broadcast_right named a (z ∷ zs) xs h k =
+      by_test (is_among a named) refl (λ xs same. broadcast_right named (a + 1) zs xs same (λ d x e. ap (slice_get ys) (let q : a + 1 + d ≡ a + suc d = omega arith in q) ∙ k (suc d) x e)) where
+    there : ((xs : List Extent) → are_same_extents (extents_from named (a + 1) zs) xs ≡ true → Each (Right ys fixed) (zip (kept named (a + 1) (count_up (a + 1) (length zs))) xs) × (length (kept named (a + 1) (count_up (a + 1) (length zs))) ≡ length xs)) → (xs : List Extent) → are_same_extents (z ∷ extents_from named (a + 1) zs) xs ≡ true → Each (Right ys fixed) (zip (a ∷ kept named (a + 1) (count_up (a + 1) (length zs))) xs) × (length (a ∷ kept named (a + 1) (count_up (a + 1) (length zs))) ≡ length xs)
+    there later [] h = absurd (let e = eqb-true (length (z ∷ extents_from named (a + 1) zs)) 0 (and_parts (length (z ∷ extents_from named (a + 1) zs) == 0) _ h).0 in omega (arith, e))
+    there later (x ∷ xs) h =
         let both = and_parts (is_same_extent z x) _ (sym (same_first z x (extents_from named (a + 1) zs) xs) ∙ h) in
-        let more = broadcast_right named (a + 1) zs xs both.1 later in
+        let more = later xs both.1 in
         ((ap (slice_get ys) (let q : a ≡ a + 0 = omega arith in q) ∙ k 0 z refl ∙ ap Some (same_is z x both.0), more.0), ap suc more.1)
     by_test : (b : Bool) → is_among a named ≡ b →
-        Each (Right ys fixed) (zip (if b then rest else a ∷ rest) xs) × (length (if b then rest else a ∷ rest) ≡ length xs)
-    by_test true e = broadcast_right named (a + 1) zs xs (ap (λ es. are_same_extents es xs) (sym (named_is_left_out named a z zs e)) ∙ h) later
-    by_test false e = there xs (ap (λ es. are_same_extents es xs) (sym (other_is_kept named a z zs e)) ∙ h)
+        ((xs : List Extent) → are_same_extents (extents_from named (a + 1) zs) xs ≡ true → Each (Right ys fixed) (zip (kept named (a + 1) (count_up (a + 1) (length zs))) xs) × (length (kept named (a + 1) (count_up (a + 1) (length zs))) ≡ length xs)) →
+        Each (Right ys fixed) (zip (if b then kept named (a + 1) (count_up (a + 1) (length zs)) else a ∷ kept named (a + 1) (count_up (a + 1) (length zs))) xs) × (length (if b then kept named (a + 1) (count_up (a + 1) (length zs)) else a ∷ kept named (a + 1) (count_up (a + 1) (length zs))) ≡ length xs)
+    by_test true e later = later xs (ap (λ es. are_same_extents es xs) (sym (named_is_left_out named a z zs e)) ∙ h)
+    by_test false e later = there later xs (ap (λ es. are_same_extents es xs) (sym (other_is_kept named a z zs e)) ∙ h)
 
 -- PRODUCTS
 product_payload : (narrow width : ℕ) → 0 < narrow → narrow ≤ width → payload_fits (multiply_add narrow width) ≡ true
@@ -200,17 +199,17 @@ abbrev is_selecting : ℕ → ℕ → List ℕ → List Extent → Bool
 is_selecting dims n ds xs = (n == dims && length (map dimension ds) == length xs) && list_all is_not_negative (map dimension ds)
 
 abbrev product_maps : ℕ → List ℕ → List ℕ → List ℕ → List MapShape
-product_maps n as bs cs = select_map n as ∷ select_map n bs ∷ select_map n cs ∷ []
+product_maps n us bs cs = select_map n us ∷ select_map n bs ∷ select_map n cs ∷ []
 
 abbrev product_axes : List ℕ → List ℕ → List ℕ → List Extent → List Extent → List Extent → List Axis
-product_axes as bs cs A B C = (selected as A ++ (selected bs B ++ [])) ++ selected cs C
+product_axes us bs cs A B C = (selected us A ++ (selected bs B ++ [])) ++ selected cs C
 
-record ProductFits (kinds : List Iter) (n : ℕ) (as bs cs : List ℕ) (A B C : List Extent) : Type 0 where
-  first_fits : is_selecting (length kinds) n as A ≡ true
+record ProductFits (kinds : List Iter) (n : ℕ) (us bs cs : List ℕ) (A B C : List Extent) : Type 0 where
+  first_fits : is_selecting (length kinds) n us A ≡ true
   second_fits : is_selecting (length kinds) n bs B ≡ true
   output_fits : is_selecting (length kinds) n cs C ≡ true
-  cover : list_all (λ i. is_some (extent_of (product_axes as bs cs A B C) i.0)) (enumerate_from 0 kinds) ≡ true
-  agree : axes_agree (product_axes as bs cs A B C) ≡ true
+  cover : list_all (λ i. is_some (extent_of (product_axes us bs cs A B C) i.0)) (enumerate_from 0 kinds) ≡ true
+  agree : axes_agree (product_axes us bs cs A B C) ≡ true
 
 same_through : (x y z : Extent) → is_same_extent x z ≡ true → is_same_extent y z ≡ true → is_same_extent x y ≡ true
 same_through x y z h k = subst (λ w. is_same_extent x w ≡ true) (same_is x z h ∙ sym (same_is y z k)) (same_left x z h)
@@ -337,29 +336,32 @@ module _ (t : Types) (c : Constants) (wanted : List Ty) (rs : List (ValueId × T
 
     copy_windows : breaks_windows t (copy_kind w ds source outs n) ≡ false
     unfolding breaks_windows inputs_stay_in
-    copy_windows = λ j. not (or_true _ _ (and_from _ _ (all_stay (extent_of (axes t maps (source ∷ []) outs)) ds xs) refl) j)
+    copy_windows =
+        let extents = extent_of (axes t maps (source ∷ []) outs) in
+        λ j. not (or_true (has_no_points extents (replicate n Parallel)) (list_all (λ (x : MapShape × ValueId). operand_stays_in extents x.0 (t (x.1).0)) (zip maps (source ∷ [])))
+        (and_from _ _ (all_stay extents ds xs) refl) j)
 
     copy_passes : KeepsRules (copy_kind w ds source outs n)
     copy_passes = record { typed = copy_typed; maps = copy_maps; iterators = copy_iterators; extents = copy_extents; windows = copy_windows }
 
   -- two inputs and the output, of which the maps select dimensions
-  module _ (kinds : List Iter) (n : ℕ) (as bs cs : List ℕ) (x y outs : ValueId) (types : ProductTypes (t x.0) (t y.0) (t outs.0) (c x.0) (c y.0))
+  module _ (kinds : List Iter) (n : ℕ) (us bs cs : List ℕ) (x y outs : ValueId) (types : ProductTypes (t x.0) (t y.0) (t outs.0) (c x.0) (c y.0))
       (result : is_alike (t outs.0) (result_type rs) ≡ true) (same : has_extents_of (t outs.0) (result_type rs) ≡ true)
-      (fits : ProductFits kinds n as bs cs (extents_of (t x.0)) (extents_of (t y.0)) (extents_of (t outs.0)))
-      (made : list_all map_fits (product_maps n as bs cs) ≡ true) (permutes : is_projected_permutation (select_map n cs) ≡ true)
-      (iterate : match_output (product_maps n as bs cs) kinds ≡ true) where
+      (fits : ProductFits kinds n us bs cs (extents_of (t x.0)) (extents_of (t y.0)) (extents_of (t outs.0)))
+      (made : list_all map_fits (product_maps n us bs cs) ≡ true) (permutes : is_projected_permutation (select_map n cs) ≡ true)
+      (iterate : match_output (product_maps n us bs cs) kinds ≡ true) where
     abbrev payload : PayloadShape
     payload = multiply_add (width_in (t x.0)) (width_in (t outs.0))
 
     abbrev product_kind : OpKind
-    product_kind = Generic (product_maps n as bs cs) kinds (x ∷ y ∷ []) outs [] payload
+    product_kind = Generic (product_maps n us bs cs) kinds (x ∷ y ∷ []) outs [] payload
 
     product_typed : is_typed t c wanted rs product_kind ≡ true
     unfolding is_typed
     product_typed =
         and_from _ _ (and_from _ _ (and_from _ _ refl (and_from _ _ refl made))
         (and_from _ _ (and_from _ _ refl (and_from _ _ types.first_input (and_from _ _ types.second_input refl)))
-        (and_from _ _ types.output (and_from _ _ (product_names (length kinds) 0 _ _) (product_payload _ _ types.some types.small))))) result
+        (and_from _ _ types.output (and_from _ _ (product_names (length kinds) 0 (width_in (t x.0)) (width_in (t outs.0))) (product_payload (width_in (t x.0)) (width_in (t outs.0)) types.some types.small))))) result
 
     product_maps_pass : breaks_maps t product_kind ≡ false
     unfolding breaks_maps fit_operands cover_dimensions
@@ -376,8 +378,9 @@ module _ (t : Types) (c : Constants) (wanted : List Ty) (rs : List (ValueId × T
     product_windows : breaks_windows t product_kind ≡ false
     unfolding breaks_windows inputs_stay_in
     product_windows =
-        let extents = extent_of (axes t (product_maps n as bs cs) (x ∷ y ∷ []) outs) in
-        λ j. not (or_true _ _ (and_from _ _ (all_stay extents as (extents_of (t x.0))) (and_from _ _ (all_stay extents bs (extents_of (t y.0))) refl)) j)
+        let extents = extent_of (axes t (product_maps n us bs cs) (x ∷ y ∷ []) outs) in
+        λ j. not (or_true (has_no_points extents kinds) (list_all (λ (x : MapShape × ValueId). operand_stays_in extents x.0 (t (x.1).0)) (zip (product_maps n us bs cs) (x ∷ y ∷ [])))
+        (and_from _ _ (all_stay extents us (extents_of (t x.0))) (and_from _ _ (all_stay extents bs (extents_of (t y.0))) refl)) j)
 
     product_passes : KeepsRules product_kind
     product_passes = record { typed = product_typed; maps = product_maps_pass; iterators = product_iterators; extents = product_extents; windows = product_windows }
@@ -433,7 +436,7 @@ module _ (t : Types) (c : Constants) (wanted : List Ty) (rs : List (ValueId × T
   -- a named operation's generic, with results like its own
   pub named_passes : (qs : List (ValueId × Ty)) (kind : OpKind) (g : Structured) → result_type qs ≡ result_type rs → is_typed t c wanted qs kind ≡ true → keeps_extents t wanted qs kind ≡ true →
       structured_of t kind ≡ Some g → is_generic kind ≡ false → KeepsRules (kind_of g)
-  unfolding is_typed keeps_extents structured_of fill_form transpose_form broadcast_form matmul_form batch_matmul_form
+  unfolding is_typed keeps_extents match_output structured_of fill_form transpose_form broadcast_form matmul_form batch_matmul_form
   named_passes qs (Fill value outs) g e typed extents is named =
       let both = and_parts _ _ typed in
       subst (λ g. KeepsRules (kind_of g)) (same_Some _ g is) (fill_passes value outs both.0 (likes outs both.1) (sized outs extents))
@@ -451,7 +454,6 @@ module _ (t : Types) (c : Constants) (wanted : List Ty) (rs : List (ValueId × T
       (ap (is_alike (t outs.0)) (sym e) ∙ both.1) (ap (has_extents_of (t outs.0)) (sym e) ∙ shapes.1) (matmul_fits _ _ _ shapes.0) refl refl selects)
     where
       selects : match_output (product_maps 3 (0 ∷ 2 ∷ []) (2 ∷ 1 ∷ []) (0 ∷ 1 ∷ [])) (Parallel ∷ Parallel ∷ Reduction ∷ []) ≡ true
-      unfolding match_output
       selects = refl
   named_passes qs (BatchMatmul x y outs) g e typed extents is named =
       let both = and_parts _ _ typed in
@@ -462,7 +464,6 @@ module _ (t : Types) (c : Constants) (wanted : List Ty) (rs : List (ValueId × T
       (ap (is_alike (t outs.0)) (sym e) ∙ both.1) (ap (has_extents_of (t outs.0)) (sym e) ∙ shapes.1) (batch_matmul_fits _ _ _ shapes.0) refl refl selects)
     where
       selects : match_output (product_maps 4 (0 ∷ 1 ∷ 3 ∷ []) (0 ∷ 3 ∷ 2 ∷ []) (0 ∷ 1 ∷ 2 ∷ [])) (Parallel ∷ Parallel ∷ Parallel ∷ Reduction ∷ []) ≡ true
-      unfolding match_output
       selects = refl
   named_passes qs (Transpose source outs order) g e typed extents is named =
       let both = and_parts _ _ typed in

@@ -5,11 +5,11 @@ use Rattle.std.specs.List.{list_all, zip}
 use Rattle.std.proofs.lemmas.Bool.{and_parts}
 use Rattle.affine_maps.specs.Shape.{MapShape}
 use Rattle.payload_ops.specs.Bits.{binary_of}
-use Rattle.payload_ops.specs.Payload.{bits_of}
+use Rattle.mlir_base.specs.Types.{bits_of}
 use Rattle.payload_ops.specs.Shape.{PayloadShape}
 use Rattle.payload_ops.specs.Values.{Given, arg_value, op_value, step_value, steps_values, payload_value}
-use Rattle.payload_ops.specs.declared.kinds.ElemTy.{ElemTy}
-use Rattle.payload_ops.specs.declared.kinds.ElemTy.TheVariants.{Int, Index}
+use Rattle.mlir_base.specs.declared.types.ElemTy.{ElemTy}
+use Rattle.mlir_base.specs.declared.types.ElemTy.TheVariants.{Int, Index}
 use Rattle.payload_ops.specs.declared.kinds.BinOp.{BinOp}
 use Rattle.payload_ops.specs.declared.kinds.BinOp.TheVariants.{Addi, Muli, Andi, Ori}
 use Rattle.payload_ops.specs.declared.step.Arg.{Arg}
@@ -43,7 +43,6 @@ use Rattle.mlir_verify.specs.Named.{is_element}
 use Rattle.mlir_verify.specs.Types.{is_typed}
 use Rattle.mlir_verify.specs.Extents.{keeps_extents, has_extents_of, keeps_output}
 use Rattle.verified_runs.specs.Typed.{IsSized, Holds, HoldsIn, HoldAll, AreTyped, IsTypedRun}
-use Rattle.verified_runs.specs.Passes.{IsMade}
 use Rattle.verified_runs.proofs.Inputs.{Reads, KeepsWidth, tensor_reads, scalar_reads, as_wide, inputs_read, payload_keeps, if_mapped}
 use Rattle.verified_runs.proofs.Tables.{generic_typed}
 use Rattle.verified_runs.proofs.Outputs.{MayHold, alike_holds, output_may, made_typed}
@@ -253,12 +252,12 @@ module _ (scope rs : List (ValueId × Ty)) (wanted : List Ty) (s : State) (k : A
   onto outs x a e h = made_runs x (output_may (type_among scope outs.0) (result_type rs) (s.values outs.0) x a e (k outs.0) h)
 
   -- a loop adds a case: its body passes in the scope with its arguments, and each turn begins in a state that is typed there
-  pub kind_typed : (kind : OpKind) (constants : Constants) → IsMade kind → is_built_kind kind ≡ true → is_typed (type_among scope) constants wanted rs kind ≡ true →
+  pub kind_typed : (kind : OpKind) (constants : Constants) → is_built_kind kind ≡ true → is_typed (type_among scope) constants wanted rs kind ≡ true →
       keeps_extents (type_among scope) wanted rs kind ≡ true → Typed kind
   unfolding kind_meaning is_typed keeps_extents
-  kind_typed (Constant cells) c m b t e = made_runs _ (constant_may rs cells t)
-  kind_typed (Empty sizes) c m b t e = made_runs _ (empty_may rs (sizes_in s.values sizes) (and_parts _ _ t).1)
-  kind_typed (Generic maps iterators ins outs captured payload) c m b t e =
+  kind_typed (Constant cells) c b t e = made_runs _ (constant_may rs cells t)
+  kind_typed (Empty sizes) c b t e = made_runs _ (empty_may rs (sizes_in s.values sizes) (and_parts _ _ t).1)
+  kind_typed (Generic maps iterators ins outs captured payload) c b t e =
       let both = and_parts _ _ t in
       let generic = and_parts _ _ both.0 in
       let payloads = and_parts _ _ generic.1 in
@@ -266,25 +265,25 @@ module _ (scope rs : List (ValueId × Ty)) (wanted : List Ty) (s : State) (k : A
       let inputs = and_parts (length ins == length payload.ins) _ payloads.0 in
       onto outs _ both.1 (and_parts _ _ e).1 (λ es w q h.
       generic_typed maps (length iterators) (values_in s.values ins) (captured_in s.values captured) payload es w (s.values outs.0)
-      (payload_keeps maps (values_in s.values ins) (captured_in s.values captured) payload w m.1 (payload_wide _ payload.out es w (and_parts _ _ payloads.1).0 q)
+      (payload_keeps maps (values_in s.values ins) (captured_in s.values captured) payload w (and_parts _ _ (and_parts _ _ payloads.1).1).1 (payload_wide _ payload.out es w (and_parts _ _ payloads.1).0 q)
       (inputs_read (type_among scope) c s.values k ins payload.ins (eqb-true _ _ inputs.0) inputs.1) (omega (arith, counts, values_count s.values ins))) h)
-  kind_typed (Fill value outs) c m b t e =
+  kind_typed (Fill value outs) c b t e =
       let both = and_parts _ _ t in
       onto outs _ both.1 e (λ es w q h. fill_typed (s.values value.0) (s.values outs.0) es w (element_reads (type_among scope value.0) (type_among scope outs.0) _ (and_parts _ _ both.0).0 (k value.0) es w q) h)
-  kind_typed (Matmul x y outs) c m b t e =
+  kind_typed (Matmul x y outs) c b t e =
       onto outs _ (and_parts _ _ t).1 (and_parts _ _ e).1 (λ es w q h. matmul_typed (s.values x.0) (s.values y.0) (s.values outs.0) es w h)
-  kind_typed (BatchMatmul x y outs) c m b t e =
+  kind_typed (BatchMatmul x y outs) c b t e =
       onto outs _ (and_parts _ _ t).1 (and_parts _ _ e).1 (λ es w q h. batch_matmul_typed (s.values x.0) (s.values y.0) (s.values outs.0) es w h)
-  kind_typed (Transpose source outs order) c m b t e =
+  kind_typed (Transpose source outs order) c b t e =
       let both = and_parts _ _ t in
       onto outs _ both.1 (and_parts _ _ e).1 (λ es w q h. transpose_typed order (s.values source.0) (s.values outs.0) es w
       (source_reads (type_among scope source.0) (type_among scope outs.0) _
       (alike_wide (type_among scope source.0) (type_among scope outs.0) (and_parts (is_alike (type_among scope source.0) (type_among scope outs.0)) _ both.0).0) (k source.0) es w q) h)
-  kind_typed (Broadcast source outs dims) c m b t e =
+  kind_typed (Broadcast source outs dims) c b t e =
       let both = and_parts _ _ t in
       onto outs _ both.1 (and_parts _ _ e).1 (λ es w q h. broadcast_typed dims (s.values source.0) (s.values outs.0) es w
       (source_reads (type_among scope source.0) (type_among scope outs.0) _ (and_parts _ _ both.0).0 (k source.0) es w q) h)
-  kind_typed (Return vs) c m b t e =
+  kind_typed (Return vs) c b t e =
       let both = and_parts _ _ t in
       (refl, returned (type_among scope) s k vs wanted (eqb-true _ _ (and_parts _ _ both.0).1) both.1 e)
-  kind_typed kind c m b t e = absurd cc
+  kind_typed kind c b t e = absurd cc

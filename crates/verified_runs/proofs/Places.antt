@@ -14,7 +14,8 @@ use Rattle.mlir_meaning.specs.Names.{AreIn, ReadsOnly, OpsReadOnly, DefinesOnly,
 use Rattle.mlir_meaning.specs.Replacement.{StandsAlone}
 use Rattle.mlir_meaning.proofs.Grids.{each_more, each-map}
 use Rattle.mlir_verify.specs.Built.{is_built_kind, is_built}
-use Rattle.mlir_verify.specs.Names.{is_among, numbers}
+use Rattle.affine_maps.specs.Permutation.{is_among}
+use Rattle.mlir_verify.specs.Names.{numbers}
 use Rattle.verified_runs.specs.Passes.{Scope, OpPasses, BodyPasses}
 use Rattle.verified_runs.specs.Edits.{moved}
 use Rattle.verified_runs.specs.Fresh.{above_values, above_body, below}

@@ -17,10 +17,11 @@ use Rattle.mlir_verify.specs.Place.{type_among, is_empty}
 use Rattle.std.specs.List.{list_all}
 use Rattle.mlir_verify.specs.Built.{is_built_type, is_built_kind, is_built}
 use Rattle.mlir_verify.specs.Ends.{is_return}
-use Rattle.mlir_verify.specs.Names.{is_among, numbers, in_scope}
+use Rattle.affine_maps.specs.Permutation.{is_among}
+use Rattle.mlir_verify.specs.Names.{numbers, in_scope}
 use Rattle.mlir_verify.specs.Maps.{breaks_iterators}
 use Rattle.mlir_verify.proofs.Standing.{type_among-append}
-use Rattle.verified_runs.specs.Passes.{Scope, IsMade, OpPasses, BodyPasses}
+use Rattle.verified_runs.specs.Passes.{Scope, OpPasses, BodyPasses}
 use Rattle.verified_runs.specs.Laws.{Retypes}
 use Rattle.verified_runs.specs.Fresh.{above_op, above_body, below}
 use Rattle.verified_runs.proofs.Places.{built_kind, names_below}
@@ -69,11 +70,6 @@ module _ (f : ℕ → ℕ) where
   iterators_renamed (Generic maps iterators ins outs captured payload) = refl
   iterators_renamed kind = refl
 
-  made_renamed : (kind : OpKind) → IsMade kind → IsMade (new f kind)
-  unfolding renamed
-  made_renamed (Generic maps iterators ins outs captured payload) h = h
-  made_renamed kind h = tt
-
 turned_eqb : (a b : ℕ) → (a == b) ≡ (b == a)
 turned_eqb a b = grind (arith, nat_tests)
 
@@ -98,7 +94,6 @@ module _ (n : ℕ) (f back : ℕ → ℕ) (returns : (v : ℕ) → v < n → bac
       (names_below n (operands o.kind) (omega arith)) in
       let there : OpPasses other wanted (record { id = o.id; results = o.results; kind = new f o.kind }) = record {
         constants = λ w. h.constants (back w);
-        made = made_renamed f o.kind h.made;
         news = news o.results h.news (names_below n (names_of o.results) (omega arith));
         known = ap (in_scope (type_among other)) (operands_renamed f o.kind b) ∙ all_known f (type_among old) (type_among other) h.constants (λ w. h.constants (back w)) (operands o.kind) agrees ∙ h.known;
         built = (λ j. built_renamed f o.kind j && list_all (λ (x : ValueId × Ty). is_built_type x.1) o.results) ∙ h.built;

@@ -34,7 +34,7 @@ pub op_typed : (scope : Scope) (wanted : List Ty) (o : Op) (s : State) → OpPas
     IsTypedRun (is_return o.kind) (type_among (scope ++ o.results)) wanted (kind_meaning o.kind o.results s)
 unfolding is_built breaks_extents
 op_typed scope wanted o s h k =
-    kind_typed scope o.results wanted s k o.kind h.constants h.made (and_parts _ _ h.built).0 h.typed (not_false _ h.extents)
+    kind_typed scope o.results wanted s k o.kind h.constants (and_parts _ _ h.built).0 h.typed (not_false _ h.extents)
 
 is_nonempty : {A : Type 0} (xs : List A) → is_empty xs ≡ false → 0 < length xs
 is_nonempty [] e = absurd cc
@@ -84,11 +84,11 @@ module _ (wanted : List Ty) where
   -- `for_state`, which is typed by `defined_typed`, since the carried values are the starts, or what a turn before ended with (an induction
   -- over `TurnBegins`, by `run_typed` of the inner body); the rest is `comes` inside. A loop's own clause of `kind_typed` is that induction
   -- over `turns`, so `kind_typed` and a `row_typed` are then a mutual pair, with a bridge from the row to the list of operations.
-  no_for : (scope : Scope) (l : _) (body : List Op) → OpPasses scope wanted (for_op l body) → ⊥
+  pub no_for : (scope : Scope) (l : _) (body : List Op) → OpPasses scope wanted (for_op l body) → ⊥
   unfolding is_built
   no_for scope l body h = absurd (let q = (and_parts (is_built_kind (for_op l body).kind) (list_all (λ (r : ValueId × Ty). is_built_type r.1) l.results) h.built).0 in cc)
 
-  no_forall : (scope : Scope) (l : _) (body : List Op) → OpPasses scope wanted (forall_op l body) → ⊥
+  pub no_forall : (scope : Scope) (l : _) (body : List Op) → OpPasses scope wanted (forall_op l body) → ⊥
   unfolding is_built
   no_forall scope l body h = absurd (let q = (and_parts (is_built_kind (forall_op l body).kind) (list_all (λ (r : ValueId × Ty). is_built_type r.1) l.results) h.built).0 in cc)
 

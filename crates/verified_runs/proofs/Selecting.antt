@@ -2,7 +2,8 @@
 use Rattle.std.proofs.Common.{◌≡◌, ℕ, zero, suc, ◌+◌, ◌<◌, ◌≤◌, ◌==◌, ◌||◌, ◌&&◌, Bool, true, false, List, [], ◌∷◌, ◌++◌, map, length, replicate, Option, Some, None, refl, ap, sym, subst, ◌∙◌, arith, eq-eqb, eqb-true, ltb-true, lt-ltb, zero-add}
 use Rattle.std.specs.Prelude.{nat_lt, not, is_some, pos, slice_get, if◌then◌else◌}
 use Rattle.std.specs.List.{list_all, list_any, zip, filter_map, enumerate_from}
-use Rattle.std.proofs.lemmas.Bool.{and_parts, and_from, ne_eqb}
+use Rattle.std.proofs.lemmas.Bool.{and_parts, and_from, ne_eqb, le-leb}
+use Rattle.mlir_base.specs.Numbers.{is_coefficient}
 use Rattle.std.proofs.lemmas.Bool.Decides.{eqb_tells}
 use Rattle.std.proofs.lemmas.List.{length-map}
 use Rattle.std.proofs.lemmas.Option.{slice_get_within, same_Some}
@@ -33,7 +34,7 @@ mapped_last : {A B : Type 0} (f : A → B) (xs : List A) (x : A) → map f (xs +
 mapped_last f [] x = refl
 mapped_last f (y ∷ ys) x = ap (λ zs. f y ∷ zs) (mapped_last f ys x)
 
-counted_dimensions : (n : ℕ) → dimensions n ≡ map dimension (count_up 0 n)
+pub counted_dimensions : (n : ℕ) → dimensions n ≡ map dimension (count_up 0 n)
 counted_dimensions zero = refl
 counted_dimensions (suc n) =
     (λ j. counted_dimensions n j ++ dimension n ∷ [])
@@ -68,9 +69,12 @@ counted_below a zero m l = tt
 counted_below a (suc n) m l = (omega arith, counted_below (a + 1) n m (omega arith))
 
 -- V2: a map that selects dimensions that are there is one
+one_fits : (n d : ℕ) → d < n → expr_fits n (dimension d) ≡ true
+one_fits n d l = λ j. le-leb 0 d (omega arith) j && lt-ltb d n l j && is_coefficient (pos 1) && true
+
 all_fit : (n : ℕ) (ds : List ℕ) → Each (λ d. d < n) ds → list_all (expr_fits n) (map dimension ds) ≡ true
 all_fit n [] h = refl
-all_fit n (d ∷ ds) h = and_from _ _ (λ j. lt-ltb d n h.0 j && true) (all_fit n ds h.1)
+all_fit n (d ∷ ds) h = and_from (expr_fits n (dimension d)) (list_all (expr_fits n) (map dimension ds)) (one_fits n d h.0) (all_fit n ds h.1)
 
 pub selecting_is_map : (n : ℕ) (ds : List ℕ) → Each (λ d. d < n) ds → map_fits (select_map n ds) ≡ true
 selecting_is_map n ds h = all_fit n ds h
@@ -108,7 +112,7 @@ identity_parallel n = all_parallel (λ k. is_among k (dimensions_of (dimensions 
 pub selected_axes : (ds : List ℕ) (xs : List Extent) → filter_map axis (zip (map dimension ds) xs) ≡ zip ds xs
 selected_axes [] xs = refl
 selected_axes (d ∷ ds) [] = refl
-selected_axes (d ∷ ds) (x ∷ xs) = ap (λ (as : List Axis). (d, x) ∷ as) (selected_axes ds xs)
+selected_axes (d ∷ ds) (x ∷ xs) = ap (λ (front : List Axis). (d, x) ∷ front) (selected_axes ds xs)
 
 pub same_is : (x y : Extent) → is_same_extent x y ≡ true → x ≡ y
 same_is (Fixed m) (Fixed n) h = ap Fixed (eqb-true m n h)
@@ -160,12 +164,12 @@ numbered_extent a (z ∷ zs) (suc d) =
     (λ j. if ne_eqb a (a + suc d) (λ e. absurd (omega (arith, e))) j then Some z else extent_of (zip (count_up (a + 1) (length zs)) zs) (a + suc d))
     ∙ ap (extent_of (zip (count_up (a + 1) (length zs)) zs)) (let e : a + suc d ≡ a + 1 + d = omega arith in e) ∙ numbered_extent (a + 1) zs d
 
-extent_append : (as bs : List Axis) (d : ℕ) → extent_of (as ++ bs) d ≡ first (extent_of as d) (extent_of bs d)
+pub extent_append : (front bs : List Axis) (d : ℕ) → extent_of (front ++ bs) d ≡ first (extent_of front d) (extent_of bs d)
 extent_append [] bs d = refl
-extent_append (a ∷ as) bs d = by_test (a.0 == d) where
-  by_test : (b : Bool) → (if b then Some a.1 else extent_of (as ++ bs) d) ≡ first (if b then Some a.1 else extent_of as d) (extent_of bs d)
-  by_test true = refl
-  by_test false = extent_append as bs d
+extent_append (a ∷ front) bs d = by_test (a.0 == d) (extent_append front bs d) where
+  by_test : (b : Bool) → extent_of (front ++ bs) d ≡ first (extent_of front d) (extent_of bs d) → (if b then Some a.1 else extent_of (front ++ bs) d) ≡ first (if b then Some a.1 else extent_of front d) (extent_of bs d)
+  by_test true rest = refl
+  by_test false rest = rest
 
 -- operands of which each selected axis has the extent of the output's axis of that number
 module _ (ys : List Extent) (fixed : list_all is_fixed ys ≡ true) where
@@ -173,37 +177,37 @@ module _ (ys : List Extent) (fixed : list_all is_fixed ys ≡ true) where
   abbrev pub Right : Axis → Type 0
   Right a = slice_get ys a.0 ≡ Some a.1
 
-  decided : (as : List Axis) (d : ℕ) → Each Right as → first (extent_of as d) (slice_get ys d) ≡ slice_get ys d
+  decided : (front : List Axis) (d : ℕ) → Each Right front → first (extent_of front d) (slice_get ys d) ≡ slice_get ys d
   decided [] d h = refl
-  decided (a ∷ as) d h = by_test (a.0 == d) refl where
-    by_test : (b : Bool) → (a.0 == d) ≡ b → first (if b then Some a.1 else extent_of as d) (slice_get ys d) ≡ slice_get ys d
-    by_test true e = sym h.0 ∙ ap (slice_get ys) (eqb-true a.0 d e)
-    by_test false e = decided as d h.1
+  decided (a ∷ front) d h = by_test (a.0 == d) refl (decided front d h.1) where
+    by_test : (b : Bool) → (a.0 == d) ≡ b → first (extent_of front d) (slice_get ys d) ≡ slice_get ys d → first (if b then Some a.1 else extent_of front d) (slice_get ys d) ≡ slice_get ys d
+    by_test true e rest = sym h.0 ∙ ap (slice_get ys) (eqb-true a.0 d e)
+    by_test false e rest = rest
 
   own : Each Right (zip (count_up 0 (length ys)) ys)
   own = each_numbered Right 0 ys (λ d z e. ap (slice_get ys) (zero-add d) ∙ e)
 
   -- all axes: those of an input, and the output's own
   abbrev pub all_axes : List Axis → List Axis
-  all_axes as = as ++ zip (count_up 0 (length ys)) ys
+  all_axes front = front ++ zip (count_up 0 (length ys)) ys
 
-  pub extents_are : (as : List Axis) → Each Right as → (d : ℕ) → extent_of (all_axes as) d ≡ slice_get ys d
-  extents_are as h d =
-      extent_append as (zip (count_up 0 (length ys)) ys) d
-      ∙ (λ j. first (extent_of as d) ((ap (extent_of (zip (count_up 0 (length ys)) ys)) (sym (zero-add d)) ∙ numbered_extent 0 ys d) j)) ∙ decided as d h
+  pub extents_are : (front : List Axis) → Each Right front → (d : ℕ) → extent_of (all_axes front) d ≡ slice_get ys d
+  extents_are front h d =
+      extent_append front (zip (count_up 0 (length ys)) ys) d
+      ∙ (λ j. first (extent_of front d) ((ap (extent_of (zip (count_up 0 (length ys)) ys)) (sym (zero-add d)) ∙ numbered_extent 0 ys d) j)) ∙ decided front d h
 
-  each_append : (as bs : List Axis) → Each Right as → Each Right bs → Each Right (as ++ bs)
+  each_append : (front bs : List Axis) → Each Right front → Each Right bs → Each Right (front ++ bs)
   each_append [] bs h k = k
-  each_append (a ∷ as) bs h k = (h.0, each_append as bs h.1 k)
+  each_append (a ∷ front) bs h k = (h.0, each_append front bs h.1 k)
 
-  all_agree : (extents : ℕ → Option Extent) → ((d : ℕ) → extents d ≡ slice_get ys d) → (as : List Axis) → Each Right as → list_all (λ a. has_extent (extents a.0) a.1) as ≡ true
+  all_agree : (extents : ℕ → Option Extent) → ((d : ℕ) → extents d ≡ slice_get ys d) → (front : List Axis) → Each Right front → list_all (λ a. has_extent (extents a.0) a.1) front ≡ true
   all_agree extents e [] h = refl
-  all_agree extents e (a ∷ as) h =
-      and_from _ _ (ap (λ o. has_extent o a.1) (e a.0 ∙ h.0) ∙ fixed_at ys a.0 a.1 fixed h.0) (all_agree extents e as h.1)
+  all_agree extents e (a ∷ front) h =
+      and_from _ _ (ap (λ o. has_extent o a.1) (e a.0 ∙ h.0) ∙ fixed_at ys a.0 a.1 fixed h.0) (all_agree extents e front h.1)
 
   -- V7
-  pub axes_fit : (as : List Axis) → Each Right as → list_all (λ a. has_extent (extent_of (all_axes as) a.0) a.1) (all_axes as) ≡ true
-  axes_fit as h = all_agree (extent_of (all_axes as)) (extents_are as h) (all_axes as) (each_append as (zip (count_up 0 (length ys)) ys) h own)
+  pub axes_fit : (front : List Axis) → Each Right front → list_all (λ a. has_extent (extent_of (all_axes front) a.0) a.1) (all_axes front) ≡ true
+  axes_fit front h = all_agree (extent_of (all_axes front)) (extents_are front h) (all_axes front) (each_append front (zip (count_up 0 (length ys)) ys) h own)
 
   all_there : (extents : ℕ → Option Extent) (a n : ℕ) → ((d : ℕ) → d < n → is_some (extents (a + d)) ≡ true) → list_all (λ i. is_some (extents i.0)) (enumerate_from a (replicate n Parallel)) ≡ true
   all_there extents a zero h = refl
@@ -217,9 +221,9 @@ module _ (ys : List Extent) (fixed : list_all is_fixed ys ≡ true) where
   within (z ∷ zs) (suc d) l = within zs d (omega arith)
 
   -- V5
-  pub axes_cover : (as : List Axis) → Each Right as → list_all (λ i. is_some (extent_of (all_axes as) i.0)) (enumerate_from 0 (replicate (length ys) Parallel)) ≡ true
-  axes_cover as h = all_there (extent_of (all_axes as)) 0 (length ys)
-      (λ d l. ap is_some (extents_are as h (0 + d)) ∙ ap (λ k. is_some (slice_get ys k)) (zero-add d) ∙ within ys d l)
+  pub axes_cover : (front : List Axis) → Each Right front → list_all (λ i. is_some (extent_of (all_axes front) i.0)) (enumerate_from 0 (replicate (length ys) Parallel)) ≡ true
+  axes_cover front h = all_there (extent_of (all_axes front)) 0 (length ys)
+      (λ d l. ap is_some (extents_are front h (0 + d)) ∙ ap (λ k. is_some (slice_get ys k)) (zero-add d) ∙ within ys d l)
 
   -- the dimensions of right axes are there
   pub right_below : (ds : List ℕ) (xs : List Extent) → length ds ≡ length xs → Each Right (zip ds xs) → Each (λ d. d < length ys) ds

@@ -14,7 +14,8 @@ use Rattle.mlir_meaning.specs.Meaning.{meaning}
 use Rattle.mlir_meaning.specs.Contexts.{Here}
 use Rattle.mlir_meaning.proofs.Grids.{each_more}
 use Rattle.mlir_verify.specs.Built.{is_built_kind}
-use Rattle.mlir_verify.specs.Names.{is_among, numbers}
+use Rattle.affine_maps.specs.Permutation.{is_among}
+use Rattle.mlir_verify.specs.Names.{numbers}
 use Rattle.verified_runs.specs.Typed.{AreOf, types_of}
 use Rattle.verified_runs.specs.Passes.{Scope, BodyPasses, FuncPasses, scope_after}
 use Rattle.verified_runs.proofs.Runs.{comes_typed, rest_passes}
@@ -22,7 +23,7 @@ use Rattle.verified_runs.proofs.Verified.{verified_passes}
 use Rattle.verified_runs.specs.Edits.{Edit, moved, Step, placed, edited_body, edited_func}
 use Rattle.verified_runs.specs.Fresh.{above_op, above_body, above_func, fresh_value, below}
 use Rattle.verified_runs.specs.Laws.{IsRight, KeepsMeaning, StepKeepsMeaning, ModuleKeepsMeaning}
-use Rattle.verified_runs.proofs.OneState.{one_state_replacement}
+use Rattle.mlir_meaning.proofs.OneState.{one_state_replacement}
 use Rattle.verified_runs.proofs.Places.{built_kind, reads_below, alone}
 
 -- where a step finds its target
@@ -120,4 +121,4 @@ keeps_all i step n right [] l h = tt
 keeps_all i step n right (f ∷ fs) l h = (step_keeps f i step n h.0 (omega arith) (right f.body), keeps_all i step n right fs (omega arith) h.1)
 
 pub module_keeps : ModuleKeepsMeaning
-module_keeps m i step verified made right = keeps_all i step (fresh_value m.funcs) right m.funcs (omega arith) (verified_passes m verified made)
+module_keeps m i step verified right = keeps_all i step (fresh_value m.funcs) right m.funcs (omega arith) (verified_passes m verified)

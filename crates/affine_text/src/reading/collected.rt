@@ -2,7 +2,7 @@
 
 ghost use Rattle.std.specs.Prelude.{◌≡◌, ◌+ℤ◌, ◌*ℤ◌, ◌≤◌, ◌^◌, unsigned_abs, true, IfOk, OnOk};
 ghost use Rattle.std.specs.Bool.{OnTrue, OnFalse};
-ghost use Rattle.payload_ops.specs.Numbers.{is_in_range};
+ghost use Rattle.mlir_base.specs.Numbers.{is_in_range};
 ghost use Rattle.affine_text.specs.Collected.{constant_form, dimension_form, terms_in_range, coefficient, with_coefficient, negative_form};
 ghost use Rattle.affine_text.specs.Meaning.{zero_form};
 ghost use Rattle.affine_text.specs.Multiples.{ascends, times_terms, is_collected, is_sum, value_of, IsMultiple, with_terms, with_constant, Multiplies, AddsTerm, AddsTerms, Adds};
@@ -10,7 +10,7 @@ ghost use Rattle.affine_text.specs.Multiples.{ascends, times_terms, is_collected
 use crate::reading::fault::NoProduct;
 use crate::reading::multiple::{Multiple, is_zero, product};
 use affine_maps::Expr;
-use payload_ops::{List, Memory, is_in_range};
+use mlir_base::{List, Memory, is_in_range};
 use std::alloc::Global;
 use std::collections::BTreeMap;
 use std::marker::Model;

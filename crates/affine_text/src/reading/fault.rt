@@ -1,6 +1,6 @@
 ghost use Rattle.std.specs.Prelude.{◌≡◌};
 
-use payload_ops::Memory as OutOfMemory;
+use mlir_base::Memory as OutOfMemory;
 
 /// Why no map stands at the front of a text. Each fault has the place of the byte with which its
 /// token begins.

@@ -10,7 +10,7 @@ use crate::reading::collected::{Product, Sum};
 use crate::reading::fault::{MapError, NoProduct};
 use crate::reading::level::Level;
 use affine_maps::Expr;
-use payload_ops::{List, Memory};
+use mlir_base::{List, Memory};
 use std::alloc::Global;
 use std::marker::Model;
 use std::mem::replace;

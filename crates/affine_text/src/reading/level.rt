@@ -6,7 +6,7 @@ ghost use Rattle.affine_text.specs.Feeding.{TakesFactor, EndsProduct};
 
 use crate::reading::collected::{Product, Sum};
 use crate::reading::fault::NoProduct;
-use payload_ops::Memory;
+use mlir_base::Memory;
 use std::alloc::Global;
 
 /// A sum, and the product that it is to be joined with next.

@@ -1,13 +1,13 @@
 //! Linear forms in a multiple.
 
 ghost use Rattle.std.specs.Prelude.{◌≡◌, ◌&&◌, max, ℕ, true, if◌then◌else◌, IfOk, MatchOption, ◌^◌, ◌≤◌, ◌<◌, ◌*◌, ◌*ℤ◌, nat_le, unsigned_abs};
-ghost use Rattle.payload_ops.specs.Numbers.{is_in_range};
+ghost use Rattle.mlir_base.specs.Numbers.{is_in_range};
 ghost use Rattle.affine_text.specs.Collected.{is_zero, constant_form, dimension_form, has_terms, negative_form};
 ghost use Rattle.affine_text.specs.Multiples.{greatest_of, is_collected, value_of, IsMultiple, multiple_of, TimesGives};
 
 use crate::reading::fault::NoProduct;
 use affine_maps::Expr;
-use payload_ops::{List, Memory};
+use mlir_base::{List, Memory};
 use std::alloc::Global;
 
 /// A constant alone.

@@ -3,7 +3,7 @@
 ghost use Rattle.std.specs.Prelude.{◌≡◌, None, [], ◌∷◌, ◌++◌, length, OnOk};
 ghost use Rattle.affine_text.specs.Grammar.{dimension_of};
 
-use payload_ops::Memory;
+use mlir_base::Memory;
 use std::alloc::Global;
 use std::collections::HashMap;
 use std::marker::Model;

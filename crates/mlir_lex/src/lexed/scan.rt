@@ -4,7 +4,7 @@ ghost use Rattle.std.specs.Prelude.{◌≤◌, length};
 ghost use Rattle.mlir_lex.specs.Lexed.{Answers};
 
 use super::Tokens;
-use payload_ops::List;
+use mlir_base::List;
 use std::alloc::Global;
 use text_format::LexError;
 

@@ -4,7 +4,7 @@ ghost use Rattle.mlir_syntax.specs.Constants.{dense_piece, dense_literal, litera
 ghost use Rattle.mlir_syntax.specs.ConstantLaws.{dense_piece-exact, dense_literal-exact, literal-exact, constant-exact};
 
 use crate::tree::{Constant, DenseLiteral, DensePiece, Literal, ScalarLiteral};
-use payload_ops::Memory;
+use mlir_base::Memory;
 use std::alloc::Global;
 use text_format::{Class, Lexeme, Node, Parser, Position, Tree, many};
 

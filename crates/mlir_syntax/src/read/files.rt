@@ -8,7 +8,7 @@ use crate::tree::{
     NextValue, Param, ResultTypes, ReturnName, ReturnType, Returned, ReturnedValues, ScriptModule,
     SeveralResults, Statement, WrittenMap,
 };
-use payload_ops::Memory;
+use mlir_base::Memory;
 use script_syntax::Sequence;
 use std::alloc::Global;
 use text_format::{Class, Lexeme, Node, Parser, Position, Tree, list, many, optional};

@@ -7,7 +7,7 @@ use crate::tree::{
     Generic, InputTypes, Inputs, IteratorType, MapUse, NextInput, NextType, Operands, Output,
     Region,
 };
-use payload_ops::Memory;
+use mlir_base::Memory;
 use std::alloc::Global;
 use text_format::{Class, Lexeme, Node, Parser, Position, Tree, list, many, optional};
 

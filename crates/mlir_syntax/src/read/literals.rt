@@ -4,7 +4,7 @@ ghost use Rattle.mlir_syntax.specs.Literals.{sign, signed_number, typed_number, 
 ghost use Rattle.mlir_syntax.specs.LiteralLaws.{sign-exact, signed_number-exact, typed_number-exact, scalar_literal-exact};
 
 use crate::tree::{ScalarLiteral, Sign, SignedNumber, TypedNumber};
-use payload_ops::Memory;
+use mlir_base::Memory;
 use std::alloc::Global;
 use text_format::{Class, Lexeme, Node, Parser, Tree, optional};
 

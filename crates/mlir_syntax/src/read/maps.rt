@@ -4,7 +4,7 @@ ghost use Rattle.mlir_syntax.specs.Maps.{map_piece, written_map, map_use};
 ghost use Rattle.mlir_syntax.specs.MapLaws.{map_piece-exact, written_map-exact, map_use-exact};
 
 use crate::tree::{MapPiece, MapUse, WrittenMap};
-use payload_ops::Memory;
+use mlir_base::Memory;
 use std::alloc::Global;
 use text_format::{Class, Lexeme, Node, Parser, Tree, many};
 

@@ -10,7 +10,7 @@ ghost use Rattle.mlir_syntax.specs.OperationLaws.{empty-exact, operation-exact, 
 use crate::tree::{
     BatchMatmul, Broadcast, Constant, Empty, Fill, Generic, Matmul, Operation, Statement, Transpose,
 };
-use payload_ops::Memory;
+use mlir_base::Memory;
 use std::alloc::Global;
 use text_format::{Class, Lexeme, Node, Parser, Position, Tree};
 

@@ -4,7 +4,7 @@ ghost use Rattle.mlir_syntax.specs.Payloads.{block_arg, next_arg, block_args, st
 ghost use Rattle.mlir_syntax.specs.PayloadLaws.{block_arg-exact, next_arg-exact, block_args-exact, step-open, region-exact};
 
 use crate::tree::{BlockArg, BlockArgs, NextArg, Region, Step, StepOperation};
-use payload_ops::Memory;
+use mlir_base::Memory;
 use std::alloc::Global;
 use text_format::{
     Class, Lexeme, Node, OpenNode, OpenTree, Parser, Position, Tree, many, many_open,

@@ -7,7 +7,7 @@ use crate::tree::{
     ApplyOperand, ApplyStep, ApplySymbols, BinaryStep, CastStep, CompareStep, ConstantStep,
     Conversion, IndexCastStep, IndexStep, MapUse, ScalarLiteral, SelectStep, StepOperation,
 };
-use payload_ops::Memory;
+use mlir_base::Memory;
 use std::alloc::Global;
 use text_format::{
     Class, Lexeme, Node, OpenNode, OpenTree, Parser, Position, Tree, list, list_with_close,

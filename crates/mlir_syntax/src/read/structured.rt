@@ -6,7 +6,7 @@ ghost use Rattle.mlir_syntax.specs.StructuredLaws.{fill-exact, factors-exact, ma
 use crate::tree::{
     BatchMatmul, Broadcast, Factors, Fill, Matmul, Output, SignedNumber, SourceAndOutput, Transpose,
 };
-use payload_ops::Memory;
+use mlir_base::Memory;
 use std::alloc::Global;
 use text_format::{Class, Lexeme, Node, Parser, Position, Tree, list};
 

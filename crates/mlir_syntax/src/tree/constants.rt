@@ -1,7 +1,7 @@
 //! Constants.
 
 use super::literals::ScalarLiteral;
-use payload_ops::List;
+use mlir_base::List;
 use text_format::Token;
 
 /// A token of a dense literal.

@@ -2,7 +2,7 @@
 
 use super::maps::WrittenMap;
 use super::operations::Statement;
-use payload_ops::List;
+use mlir_base::List;
 use script_syntax::Sequence;
 use text_format::Token;
 

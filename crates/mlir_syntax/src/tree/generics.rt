@@ -2,7 +2,7 @@
 
 use super::maps::MapUse;
 use super::payloads::Region;
-use payload_ops::List;
+use mlir_base::List;
 use text_format::Token;
 
 /// `"parallel"` or `"reduction"`

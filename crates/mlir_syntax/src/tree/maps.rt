@@ -1,6 +1,6 @@
 //! Maps, as they are used.
 
-use payload_ops::List;
+use mlir_base::List;
 use text_format::Token;
 
 /// A token of a written map, between its `<` and its `>`.

@@ -1,7 +1,7 @@
 //! A payload's block.
 
 use crate::tree::steps::StepOperation;
-use payload_ops::List;
+use mlir_base::List;
 use text_format::Token;
 
 /// `%name: ty`, the first argument of a block.

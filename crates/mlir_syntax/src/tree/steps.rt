@@ -2,7 +2,7 @@
 
 use crate::tree::literals::ScalarLiteral;
 use crate::tree::maps::MapUse;
-use payload_ops::List;
+use mlir_base::List;
 use text_format::Token;
 
 /// `arith.constant literal`

@@ -2,7 +2,7 @@
 
 use super::generics::Output;
 use super::literals::SignedNumber;
-use payload_ops::List;
+use mlir_base::List;
 use text_format::Token;
 
 /// `linalg.fill ins(%c : ty) outs(%o : ty) -> ty`

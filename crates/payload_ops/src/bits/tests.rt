@@ -1,7 +1,8 @@
 //! Values computed apart from this program.
 
 use crate::bits::{compare, low_bits, signed, wrap};
-use crate::kinds::{Predicate, Width};
+use crate::kinds::Predicate;
+use mlir_base::Width;
 
 #[test]
 fn wraps(rt: HostRuntime) {

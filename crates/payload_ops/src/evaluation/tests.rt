@@ -1,15 +1,14 @@
 //! One payload for each kind of step.
 
 ghost use Rattle.std.specs.Prelude.{◌≡◌, IsTrue};
-ghost use Rattle.payload_ops.specs.Payload.{is_value};
+ghost use Rattle.mlir_base.specs.Types.{is_value};
 ghost use Rattle.payload_ops.specs.Values.{is_supplied};
 
 use crate::evaluation::eval;
-use crate::kinds::{BinOp, Division, ElemTy, Predicate, Width};
-use crate::list::List;
-use crate::memory::Memory;
+use crate::kinds::{BinOp, Division, Predicate};
 use crate::payloads::parts::payload;
 use crate::step::{Arg, PayloadStep, StepOp};
+use mlir_base::{ElemTy, List, Memory, Width};
 use std::alloc::Global;
 
 /// What the step gives at the point (3, 4) with the captured value 9, or `None` where it

@@ -1,8 +1,9 @@
 //! Values computed apart from this program, at the edges of four widths.
 
 use crate::bits::low_bits;
-use crate::kinds::{BinOp, Width};
+use crate::kinds::BinOp;
 use crate::operations::binary;
+use mlir_base::Width;
 use std::process::Abort;
 
 /// The least and the greatest number of 64 bits, and -1.

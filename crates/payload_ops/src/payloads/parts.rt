@@ -2,10 +2,9 @@ ghost use Rattle.std.specs.Prelude.{◌≡◌, ◌↔◌, IsSome, IfSome};
 ghost use Rattle.payload_ops.specs.Payload.{IsPayload};
 
 use crate::fits::{Scope, steps_fit};
-use crate::kinds::ElemTy;
-use crate::list::List;
 use crate::payloads::Payload;
 use crate::step::{Arg, PayloadStep};
+use mlir_base::{ElemTy, List};
 
 /// The payload of these parts. `None` exactly where an argument names no input and no earlier step,
 /// a step's types do not fit its operation, a constant is no value of its type, a `Linear` step has
@@ -41,10 +40,9 @@ pub fn payload(
 #[cfg(test)]
 mod tests {
     use super::payload;
-    use crate::kinds::{BinOp, ElemTy, Width};
-    use crate::list::List;
-    use crate::memory::Memory;
+    use crate::kinds::BinOp;
     use crate::step::{Arg, PayloadStep, StepOp};
+    use mlir_base::{ElemTy, List, Memory, Width};
     use std::alloc::Global;
 
     /// Whether an addition of the one input to `other`, which yields `yielded`, is a payload.

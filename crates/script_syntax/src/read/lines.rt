@@ -7,7 +7,7 @@ ghost use Rattle.script_syntax.specs.LineLaws.{line-exact, sequence-exact, line_
 use super::results::read_behind_first;
 use super::steps::read_vectorize_step;
 use crate::tree::{Line, NamedStep, Sequence};
-use payload_ops::Memory;
+use mlir_base::Memory;
 use std::alloc::Global;
 use text_format::{Class, Lexeme, Node, Parser, Position, Tree, many};
 

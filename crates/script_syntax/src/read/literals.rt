@@ -7,7 +7,7 @@ ghost use Rattle.script_syntax.specs.Literals.{signed, pad_value, quoted_name, n
 ghost use Rattle.script_syntax.specs.LiteralLaws.{signed-exact, pad_value-exact, quoted_name-exact};
 
 use crate::tree::{PadValue, QuotedName, Signed};
-use payload_ops::{List, Memory};
+use mlir_base::{List, Memory};
 use std::alloc::Global;
 use text_format::{Class, Lexeme, Node, Parser, Token, Tree, list};
 

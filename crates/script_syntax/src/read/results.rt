@@ -4,18 +4,10 @@ ghost use Rattle.std.specs.Prelude.{◌≡◌, IfOk};
 ghost use Rattle.script_syntax.specs.Results.{next_type, more_types, one_result, two_results, three_results, many_results, next_result, further, group_types, group_step, group, behind_third, third, behind_second, second, behind_first};
 ghost use Rattle.script_syntax.specs.ResultLaws.{next_type-exact, next_result-exact};
 
-use super::steps::{
-    read_fuse_step, read_handle_step, read_match_step, read_pad_step, read_pass_step,
-    read_sized_step, read_tile_for_step, read_tiled_step, step_name,
-};
-use super::types::{
-    read_both_to_two, read_to_any, read_to_four, read_to_one, read_to_three, read_to_two,
-};
-use crate::tree::{
-    BehindFirst, BehindSecond, BehindThird, Further, Group, GroupStep, GroupTypes, ManyResults,
-    MoreTypes, NextResult, NextType, OneResult, Second, Third, ThreeResults, TwoResults,
-};
-use payload_ops::Memory;
+use super::steps::{read_fuse_step, read_handle_step, read_match_step, read_pad_step, read_pass_step, read_sized_step, read_tile_for_step, read_tiled_step, step_name};
+use super::types::{read_both_to_two, read_to_any, read_to_four, read_to_one, read_to_three, read_to_two};
+use crate::tree::{BehindFirst, BehindSecond, BehindThird, Further, Group, GroupStep, GroupTypes, ManyResults, MoreTypes, NextResult, NextType, OneResult, Second, Third, ThreeResults, TwoResults};
+use mlir_base::Memory;
 use std::alloc::Global;
 use text_format::{Class, Lexeme, Node, Parser, Tree, many};
 

@@ -5,11 +5,8 @@ ghost use Rattle.script_syntax.specs.Steps.{step_name, handle_step, pass_step, m
 ghost use Rattle.script_syntax.specs.StepLaws.{multiples-exact, vector_sizes-exact};
 
 use super::literals::{read_numbers, read_word};
-use crate::tree::{
-    FuseStep, HandleStep, MatchStep, Multiples, PadStep, PadValue, QuotedName, SizedStep,
-    TileForStep, VectorSizes, VectorizeStep,
-};
-use payload_ops::Memory;
+use crate::tree::{FuseStep, HandleStep, MatchStep, Multiples, PadStep, PadValue, QuotedName, SizedStep, TileForStep, VectorSizes, VectorizeStep};
+use mlir_base::Memory;
 use std::alloc::Global;
 use text_format::{Class, Lexeme, Node, Parser, Position, Tree, list, optional};
 

@@ -2,7 +2,7 @@
 
 use super::results::BehindFirst;
 use super::steps::VectorizeStep;
-use payload_ops::List;
+use mlir_base::List;
 use text_format::Token;
 
 /// `%first = step`, or a step with several results.

@@ -1,7 +1,7 @@
 //! The steps that may stand behind so many names of results.
 
 use super::steps::{FuseStep, HandleStep, MatchStep, PadStep, SizedStep, TileForStep};
-use payload_ops::List;
+use mlir_base::List;
 use text_format::Token;
 
 /// `, %name`, the name of a result.

@@ -1,7 +1,7 @@
 //! Steps, without the types at their end.
 
 use super::literals::{PadValue, QuotedName, Signed};
-use payload_ops::List;
+use mlir_base::List;
 use text_format::Token;
 
 /// `transform.split_handle %h`, or another step that names a handle alone.

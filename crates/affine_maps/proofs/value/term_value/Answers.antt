@@ -1,7 +1,7 @@
 use Rattle.std.proofs.Common.{rules, ◌≤◌, ◌*ℤ◌, unsigned_abs, IsTrue, ℤ, pos, FitsSigned, w64, get_or, subst, sym, arith}
 use Rattle.std.proofs.lemmas.Int.{to_z-of_z, fits_signed_from_abs}
 use Rattle.std.proofs.lemmas.Bool.Decides.{nat_tests}
-use Rattle.payload_ops.specs.Numbers.{is_in_range}
+use Rattle.mlir_base.specs.Numbers.{is_in_range}
 use Rattle.affine_maps.specs.Value.{is_coordinate}
 use Rattle.affine_maps.proofs.Integers.{product_abs, range_abs}
 use Rattle.affine_maps.proofs.Listed.{all_at}

@@ -1,5 +1,5 @@
 use Rattle.std.proofs.Common.{List, ap, sym, ◌∙◌}
-use Rattle.payload_ops.specs.declared.kinds.ElemTy.{ElemTy}
+use Rattle.mlir_base.specs.declared.types.ElemTy.{ElemTy}
 use Rattle.mlir_payload.specs.Payload.{parts_of}
 use Rattle.mlir_payload.proofs.Fitting.{parts_fit}
 use Rattle.mlir_payload.proofs.payloads.read_payload.Goals as goal

@@ -1,5 +1,5 @@
 use Rattle.std.proofs.Common.{◌≤◌, arith, refl, ◌∙◌}
-use Rattle.payload_ops.proofs.Words.{shifted_ones}
+use Rattle.mlir_base.proofs.Ones.{shifted_ones}
 use Rattle.mlir_scope.proofs.literals.most_of.Goals as goal
 
 pub returns-else-negative : goal.returns-else-negative

@@ -1,6 +1,6 @@
 use Rattle.std.proofs.Common.{◌≤◌, ◌^◌, ◌∙◌, true, sym, ap, subst, ◌+ℤ◌, ◌*ℤ◌, unsigned_abs, w64}
 use Rattle.std.proofs.lemmas.Int.{to_z-of_z}
-use Rattle.payload_ops.specs.Numbers.{is_in_range}
+use Rattle.mlir_base.specs.Numbers.{is_in_range}
 use Rattle.affine_maps.specs.declared.map.Expr.{Expr}
 use Rattle.affine_text.specs.Collected.{plus_terms, terms_in_range}
 use Rattle.affine_text.specs.Multiples.{times_terms}

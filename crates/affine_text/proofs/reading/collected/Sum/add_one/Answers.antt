@@ -1,6 +1,6 @@
 use Rattle.std.proofs.Common.{◌≤◌, ◌^◌, ◌∙◌, sym, ap, subst, ◌*ℤ◌, unsigned_abs, w64}
 use Rattle.std.proofs.lemmas.Int.{to_z-of_z}
-use Rattle.payload_ops.specs.Numbers.{is_in_range}
+use Rattle.mlir_base.specs.Numbers.{is_in_range}
 use Rattle.affine_text.proofs.Multiplying.{multiple_small, range_small, added_number, stored_number, stored_again, small_fits}
 use Rattle.affine_text.specs.Multiples.{AddsTerm}
 use Rattle.affine_text.proofs.reading.collected.Sum.add_one.Goals as goal

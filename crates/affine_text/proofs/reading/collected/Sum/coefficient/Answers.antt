@@ -1,6 +1,6 @@
 use Rattle.std.proofs.Common.{rules, ◌≡◌, ◌∙◌, ap, FitsSigned, w64}
 use Rattle.std.proofs.lemmas.Int.{to_z-of_z}
-use Rattle.payload_ops.specs.Numbers.{is_in_range}
+use Rattle.mlir_base.specs.Numbers.{is_in_range}
 use Rattle.affine_text.specs.Collected.{coefficient}
 use Rattle.affine_text.proofs.Adding.{sum_coefficient}
 use Rattle.affine_text.proofs.reading.collected.Sum.coefficient.Goals as goal

@@ -1,7 +1,7 @@
 use Rattle.std.proofs.Common.{ℕ, ◌∙◌, ap, pos}
 use Rattle.affine_text.proofs.Scaling.{scaled_one}
 use Rattle.affine_text.proofs.Multiplying.{form_holds, constant_alone, collected_constant, stored_constant}
-use Rattle.payload_ops.specs.Numbers.{is_in_range}
+use Rattle.mlir_base.specs.Numbers.{is_in_range}
 use Rattle.affine_text.specs.Collected.{constant_form}
 use Rattle.affine_text.specs.declared.reading.multiple.Multiple.{Multiple}
 use Rattle.affine_text.proofs.reading.multiple.Multiple.of_form.Goals as goal

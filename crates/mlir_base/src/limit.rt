@@ -1,0 +1,19 @@
+/// Which limit was passed.
+#[derive(Clone, Copy, Debug, PartialEq, Eq)]
+pub enum Which {
+    Bytes,
+    Operations,
+    Depth,
+    Parameters,
+    Results,
+    Operands,
+    PayloadSteps,
+    ScriptSteps,
+    Rank,
+    Loops,
+    Extent,
+    Elements,
+    Lanes,
+    Cells,
+    Work,
+}

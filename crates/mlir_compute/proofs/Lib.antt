@@ -1,4 +1,0 @@
-mod ListLemmas
-mod PayloadLemmas
-mod StructuredLemmas
-mod CopyLemmas

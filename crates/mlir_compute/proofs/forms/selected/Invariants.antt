@@ -1,6 +1,0 @@
-use Rattle.std.proofs.Common.{◌≡◌, ◌++◌, drop, map}
-use Rattle.affine_maps.specs.Map.{dimension}
-use Rattle.mlir_compute.proofs.forms.selected.Given as goal
-
-abbrev pub invariant-loop-d : goal.invariant-loop-d
-invariant-loop-d l = l.all ++ map (dimension) (drop l.d-index l.ds) ≡ map (dimension) l.ds

@@ -1,3 +1,0 @@
-mod Bindings
-mod Trips
-mod Turning

@@ -1,5 +1,0 @@
-use Rattle.std.proofs.Common.{length}
-use Rattle.mlir_grids.proofs.moves.+lies_in.Given as goal
-
-abbrev pub decreases-lies_in : goal.decreases-lies_in
-decreases-lies_in l = length l.offsets.now

@@ -1,7 +1,0 @@
-use Rattle.std.proofs.Common.{◌≡◌, ◌++◌, drop, map}
-use Rattle.std.specs.Prelude.{if◌then◌else◌}
-use Rattle.mlir_meaning.specs.Grids.{at, is_inside}
-use Rattle.mlir_grids.proofs.moves.padded_cells.Given as goal
-
-abbrev pub invariant-loop-p : goal.invariant-loop-p
-invariant-loop-p l = l.cells ++ map (λ p. if is_inside l.grid.extents p then at l.grid p else l.value) (drop l.p-index l.points) ≡ map (λ p. if is_inside l.grid.extents p then at l.grid p else l.value) l.points
