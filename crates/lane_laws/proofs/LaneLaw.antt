@@ -203,7 +203,6 @@ module _ (box vs : List ℕ) (grows : Grows box vs) (os : List LaneInput) (ds : 
     fold_some f [] a = refl
     fold_some f (p ∷ ps) a = fold_some f ps (f a p)
 
-
     -- the parallel dimensions are the output's
     module _ (once : IsOnce par) (among : AreAmong par ds) (among' : AreAmong ds par) (below : Each (λ d. d < length box) par) where
       same_test : (e p : List ℕ) → InBox (picks ds box) e → InBox vs p → same_point (kept reds 0 p) (lane_picks ds par e) ≡ same_point (picks ds p) e

@@ -104,8 +104,11 @@ inner_axes n ts [] = []
 inner_axes n ts (e ∷ es) = with_inner (axis_tile ts e) (dimension (n + axis_place ts e)) (inner_axes n ts es)
 
 abbrev pub packed_map : List ℕ → MapShape → MapShape
-packed_map ts m = record { dims = length ts + length (cut_sizes ts); results = m.results
-    ++ inner_axes (length ts) ts m.results }
+packed_map ts m = record {
+  dims = length ts + length (cut_sizes ts);
+  results = m.results
+      ++ inner_axes (length ts) ts m.results;
+}
 
 -- the same of the dimensions that the output's map selects
 abbrev pub inner_dims : ℕ → List ℕ → List ℕ → List ℕ
