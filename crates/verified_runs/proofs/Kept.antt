@@ -1,21 +1,18 @@
 -- What a place finds as it was, and what stands around it reads.
-use Rattle.std.proofs.Common.{◌≡◌, ◌≢◌, ℕ, ◌≤◌, List, [], ◌∷◌, ◌++◌, refl, sym, subst, ◌∙◌, arith}
+use Rattle.std.proofs.Common.{◌≡◌, ℕ, List, [], ◌∷◌, ◌++◌, subst, ◌∙◌, arith}
 use Rattle.std.proofs.lemmas.Bool.{ne_eqb}
-use Rattle.mlir_ir.specs.Shape.{FuncShape}
 use Rattle.mlir_ir.specs.declared.tree.Op.{Op}
-use Rattle.mlir_ir.specs.declared.tree.Ty.{Ty}
 use Rattle.mlir_meaning.specs.declared.values.Datum.TheVariants.{Number}
-use Rattle.mlir_meaning.specs.Contexts.{Context, Here, InFor, InForall, plug, Reaches}
-use Rattle.mlir_meaning.specs.Grids.{Each}
+use Rattle.mlir_meaning.specs.Contexts.{Context, Here, InFor, InForall, plug}
 use Rattle.mlir_meaning.specs.Loops.{arguments, for_state, forall_state, starts, numbers_at}
 use Rattle.mlir_meaning.specs.Names.{OpsReadOnly}
 use Rattle.mlir_meaning.specs.Replacement.{AroundReadsOnly}
-use Rattle.mlir_meaning.specs.States.{State, indices_in, set, set_all}
+use Rattle.mlir_meaning.specs.States.{indices_in, set, set_all}
 use Rattle.mlir_meaning.proofs.Keeps.{keeps_others}
 use Rattle.mlir_meaning.proofs.States.{set_other, set_all_other}
-use Rattle.verified_runs.specs.Passes.{Scope, BodyPasses, FuncPasses}
-use Rattle.verified_runs.specs.Fresh.{above_body, above_func, below}
-use Rattle.verified_runs.specs.Laws.{NotDefined, ComesKept, AroundIsBelow}
+use Rattle.verified_runs.specs.Passes.{BodyPasses}
+use Rattle.verified_runs.specs.Fresh.{below}
+use Rattle.verified_runs.specs.Laws.{ComesKept, AroundIsBelow}
 use Rattle.verified_runs.proofs.Runs.{no_for, no_forall, rest_passes}
 use Rattle.verified_runs.proofs.Places.{reads_below}
 

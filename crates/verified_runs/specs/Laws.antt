@@ -1,5 +1,5 @@
 -- The laws of verified functions and of steps. Each is the contract of a function in `src/laws.rt`.
-use Rattle.std.specs.Prelude.{◌≡◌, ◌≢◌, ◌<◌, List, ◌∷◌, length, ℕ, ◌≤◌, false, is_some, is_none, [], ◌++◌, Some}
+use Rattle.std.specs.Prelude.{◌≡◌, ◌≢◌, ◌<◌, List, ◌∷◌, length, ℕ, ◌≤◌, false, [], ◌++◌, Some}
 use Rattle.mlir_ir.specs.Shape.{FuncShape, TensorShape}
 use Rattle.mlir_ir.specs.declared.tree.Op.{Op}
 use Rattle.mlir_ir.specs.declared.tree.Module.{Module}
@@ -24,7 +24,7 @@ use Rattle.mlir_ir.specs.declared.tree.ValueId.{ValueId}
 use Rattle.verified_runs.specs.Forms.{Structured, kind_of, structured_of}
 use Rattle.verified_runs.specs.Asks.{Asks}
 use Rattle.verified_runs.specs.Edits.{Edit, moved, Step, edited_func}
-use Rattle.verified_runs.specs.Fresh.{above_op, above_func, fresh_value, fresh_op, below}
+use Rattle.verified_runs.specs.Fresh.{above_op, above_func, fresh_value, below}
 
 -- no rule fails in a verified module, operation by operation
 abbrev pub VerifiedPasses : Type 0
