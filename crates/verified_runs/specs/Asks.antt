@@ -1,5 +1,7 @@
--- What an operation asks of the state in which it runs, so that it reads nothing outside its operands: elements of the widths that it
--- takes, one cell for each point, and each element that a map selects inside its operand (Linalg, "Structured operations").
+-- What an operation asks of the state in which it runs, so that it reads nothing outside its operands: elements of
+-- the widths that it
+-- takes, one cell for each point, and each element that a map selects inside its operand (Linalg, "Structured
+-- operations").
 use Rattle.std.specs.Prelude.{◌≡◌, ℕ, ◌<◌, ◌^◌, true, is_some, slice_index, List, [], ◌∷◌, ◌++◌, length, ⊤}
 use Rattle.affine_maps.specs.Shape.{MapShape}
 use Rattle.affine_maps.specs.declared.map.Expr.{Expr}
@@ -48,7 +50,8 @@ abbrev pub AllHave : ℕ → ℕ → List MapShape → List Datum → Type 0
 AllHave d n (m ∷ ms) (x ∷ xs) = AxesHave d n m.results (grid_of x).extents × AllHave d n ms xs
 AllHave d n _ _ = ⊤
 
--- the box of a generic is the sizes of its axes: each dimension is alone in some axis, and all such axes have its extent in the box
+-- the box of a generic is the sizes of its axes: each dimension is alone in some axis, and all such axes have its
+-- extent in the box
 pub record HasBox (maps : List MapShape) (dims : ℕ) (operands : List Datum) : Type 0 where
   pub agrees : (d : ℕ) → d < dims → AllHave d (slice_index (generic_box maps dims operands) d) maps operands
   pub selected : (d : ℕ) → d < dims → is_some (operand_extent d maps operands) ≡ true
