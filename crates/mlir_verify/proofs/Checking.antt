@@ -24,7 +24,7 @@ use Rattle.mlir_verify.specs.Names.{redefines, in_scope, breaks_names, breaks_ow
 use Rattle.mlir_verify.specs.Rules.{broken, stands_at, first_broken, first_broken_of, has_body, IsVerified, AnswersVerify}
 use Rattle.mlir_ir.specs.declared.tree.Module.{Module}
 use Rattle.mlir_verify.specs.Scope.{types_in, constants_in, IsSet, Adds}
-use Rattle.mlir_verify.specs.Constants.{Constants, constants_before, constants_at, constants_of}
+use Rattle.mlir_verify.specs.Constants.{constants_before, constants_at, constants_of}
 use Rattle.mlir_verify.specs.Stages.{broken_below}
 use Rattle.mlir_verify.specs.Walk.{NamesOp, Stands, IsBefore, ChecksOp, ChecksFunc, ChecksFuncs, EntersFunc}
 use Rattle.mlir_verify.proofs.Adding.{set_at}

@@ -1,5 +1,5 @@
 -- The rules V5 to V8 of a generic, from what its parts answer.
-use Rattle.std.proofs.Common.{◌≡◌, ℕ, ◌&&◌, Bool, true, false, List, length, Option, Some, None, Result, Ok, Err, ap, sym, ◌∙◌}
+use Rattle.std.proofs.Common.{◌≡◌, ℕ, ◌&&◌, true, false, List, length, Option, Some, None, Result, Ok, Err, ap, sym, ◌∙◌}
 use Rattle.std.specs.Prelude.{not, IfOk}
 use Rattle.std.specs.List.{list_all, zip}
 use Rattle.std.specs.BTreeMap.{BTreeMap}

@@ -1,6 +1,6 @@
 -- V2 of the named structured operations (Linalg, "linalg.fill", "linalg.matmul", "linalg.batch_matmul", "linalg.transpose",
 -- "linalg.broadcast"); that their result is like their output is told beside that of a generic.
-use Rattle.std.specs.Prelude.{ℕ, ◌==◌, ◌+◌, ◌&&◌, not, nat_lt, nat_le, Bool, false, List, length, Option, Some, None}
+use Rattle.std.specs.Prelude.{ℕ, ◌==◌, ◌+◌, ◌&&◌, not, nat_lt, nat_le, Bool, false, List, length, Option, Some}
 use Rattle.std.specs.List.{list_all}
 use Rattle.affine_maps.specs.Permutation.{repeats}
 use Rattle.mlir_base.specs.declared.types.ElemTy.TheVariants.{Int}

@@ -1,6 +1,6 @@
 -- V2: operands, results and attributes have the types and lengths of their operation (Linalg, "linalg.generic"; Tensor,
 -- "tensor.empty"; Func, "func.return"; `Constants` and `Named` have the other operations).
-use Rattle.std.specs.Prelude.{ℕ, ◌==◌, ◌&&◌, not, nat_lt, Bool, true, false, List, [], ◌∷◌, length, Option, Some, None}
+use Rattle.std.specs.Prelude.{ℕ, ◌==◌, ◌&&◌, not, nat_lt, Bool, true, false, List, ◌∷◌, length, Option, Some}
 use Rattle.std.specs.List.{list_all, zip}
 use Rattle.mlir_base.specs.declared.types.ElemTy.{ElemTy}
 use Rattle.mlir_base.specs.declared.types.ElemTy.TheVariants.{Int}

@@ -1,17 +1,17 @@
 -- A generic that passes reads inside its operands: from V5, V7 and V8, by the sizes of its axes.
-use Rattle.std.proofs.Common.{◌≡◌, ℕ, zero, suc, ◌+◌, ◌-◌, ◌*◌, ◌<◌, ◌≤◌, ◌==◌, ◌||◌, ◌&&◌, ◌^◌, ℤ, pos, negsuc, ◌+ℤ◌, ◌*ℤ◌, ◌-ℤ◌, Bool, true, false, not, List, [], ◌∷◌, ◌++◌, map, length, get_or, append_assoc, Option, Some, None, refl, ap, sym, subst, ◌∙◌, arith, ⊎_elim, inl, inr, ◌⊎◌, eqb-true, eq-eqb, ltb-true}
+use Rattle.std.proofs.Common.{◌≡◌, ℕ, zero, suc, ◌+◌, ◌-◌, ◌*◌, ◌<◌, ◌≤◌, ◌==◌, ◌||◌, ◌&&◌, ◌^◌, ℤ, pos, negsuc, ◌+ℤ◌, ◌*ℤ◌, ◌-ℤ◌, Bool, true, false, List, [], ◌∷◌, ◌++◌, map, length, get_or, append_assoc, Option, Some, None, refl, ap, sym, subst, ◌∙◌, arith, eqb-true, eq-eqb, ltb-true}
 use Rattle.std.specs.Prelude.{nat_lt, nat_le, int_le, int_lt, is_some, slice_get, unwrap_or, if◌then◌else◌, ⊤}
 use Rattle.std.specs.List.{list_all, list_any, zip, flat_map, filter_map, cons_option, enumerate_from}
 use Rattle.std.specs.Option.{option_map_or}
 use Rattle.std.specs.Ordering.{int_eq}
 use Rattle.std.proofs.Math.Nat.{mul-le-mul_left}
-use Rattle.std.proofs.lemmas.Bool.{and_parts, and_from, ne_eqb}
-use Rattle.std.proofs.lemmas.Bool.Decides.{eqb_tells, Decides-int_eq}
+use Rattle.std.proofs.lemmas.Bool.{and_parts, and_from}
+use Rattle.std.proofs.lemmas.Bool.Decides.{Decides-int_eq}
 use Rattle.std.proofs.lemmas.List.Folds.{list_all-append}
 use Rattle.std.proofs.lemmas.Int.{ints}
 use Rattle.std.proofs.lemmas.Option.{same_Some}
 use Rattle.affine_maps.specs.Shape.{MapShape}
-use Rattle.affine_maps.specs.Map.{terms_fit, expr_fits, map_fits, dimension}
+use Rattle.affine_maps.specs.Map.{terms_fit, expr_fits, map_fits}
 use Rattle.affine_maps.specs.Permutation.{dimension_of_terms, dimension_of, is_projected_permutation}
 use Rattle.affine_maps.specs.Value.{value_at, weighted_sum, coordinate}
 use Rattle.affine_maps.specs.declared.map.Expr.{Expr}
@@ -39,10 +39,10 @@ use Rattle.mlir_verify.specs.Types.{is_input}
 use Rattle.mlir_verify.specs.Maps.{Axis, axis, operand_axes, output_axes, axes, extent_of, output_map, on_output, is_not_negative, fits_operand}
 use Rattle.mlir_verify.specs.Extents.{is_same_extent, has_extent, axes_agree}
 use Rattle.mlir_verify.specs.Windows.{Extents, greatest, greatest_value, is_below, stays_in, operand_stays_in, is_zero as is_zero_extent, has_no_points}
-use Rattle.verified_runs.specs.Typed.{IsSized, AreCells, Holds, HoldsIn}
-use Rattle.verified_runs.specs.Asks.{HasElements, HaveElements, ReadsInside, ReadInside}
+use Rattle.verified_runs.specs.Typed.{IsSized, AreCells, HoldsIn}
+use Rattle.verified_runs.specs.Asks.{HasElements, HaveElements, ReadsInside, ReadInside, AxesHave, AllHave, HasBox}
 use Rattle.verified_runs.proofs.Defined.{AllHold}
-use Rattle.verified_runs.proofs.Selecting.{has_is, same_left, extent_append}
+use Rattle.verified_runs.proofs.Selecting.{has_is, extent_append}
 
 -- TYPES
 input_has : (o : Option Ty) (constant : Bool) (e : ElemTy) (d : Datum) → is_input o constant e ≡ true → HoldsIn o d → HasElements e d
@@ -158,6 +158,7 @@ alone_value e d n h = by_constant (int_eq e.constant (pos 0)) refl h where
         (λ j. to_nat (one j) * n (same_Some t.0 d h j) + 0) ∙ omega arith
     by_one false q h = absurd cc
   one_term (t ∷ u ∷ terms) h = absurd cc
+
   by_constant : (b : Bool) → int_eq e.constant (pos 0) ≡ b → (if b then dimension_of_terms e.terms else None) ≡ Some d → to_nat e.constant + weight e.terms n ≡ n d
   by_constant true q h =
       let none = (Decides-int_eq e.constant (pos 0)).0 q in
@@ -175,6 +176,7 @@ alone_below dims e d p h = by_constant (int_eq e.constant (pos 0)) h where
     by_one true h = subst (λ k. k < dims) (same_Some t.0 d h) (p.0).1
     by_one false h = absurd cc
   one_term (t ∷ u ∷ terms) p h = absurd cc
+
   by_constant : (b : Bool) → (if b then dimension_of_terms e.terms else None) ≡ Some d → d < dims
   by_constant true h = one_term e.terms p.1 h
   by_constant false h = absurd cc
@@ -209,15 +211,17 @@ axes_match d (e ∷ es) (Any ∷ xs) [] h = absurd h
 axes_match d (e ∷ es) (x ∷ xs) (n ∷ ns) h =
     subst (λ o. Matches (extent_of (filter_map axis (zip (e ∷ es) (x ∷ xs))) d) (if option_map_or (λ k. k == d) o false then Some n else axis_extent d es ns)) (sym (dimension_same e))
     (by_dimension (axes_match d es xs ns (size x h).1) (dimension_of e)) where
-  size : (x : Extent) → IsSized (x ∷ xs) (n ∷ ns) → Matches (Some x) (Some n) × IsSized xs ns
-  size (Fixed m) h = h
-  size Any h = (tt, h)
-  by_test : Matches (extent_of (filter_map axis (zip es xs)) d) (axis_extent d es ns) → (c : ℕ) (b : Bool) → Matches (if b then Some x else extent_of (filter_map axis (zip es xs)) d) (if b then Some n else axis_extent d es ns)
-  by_test rest c true = (size x h).0
-  by_test rest c false = rest
-  by_dimension : Matches (extent_of (filter_map axis (zip es xs)) d) (axis_extent d es ns) → (o : Option ℕ) → Matches (extent_of (cons_option (axis_by o x) (filter_map axis (zip es xs))) d) (if option_map_or (λ k. k == d) o false then Some n else axis_extent d es ns)
-  by_dimension rest None = rest
-  by_dimension rest (Some c) = by_test rest c (c == d)
+      size : (x : Extent) → IsSized (x ∷ xs) (n ∷ ns) → Matches (Some x) (Some n) × IsSized xs ns
+      size (Fixed m) h = h
+      size Any h = (tt, h)
+
+      by_test : Matches (extent_of (filter_map axis (zip es xs)) d) (axis_extent d es ns) → (c : ℕ) (b : Bool) → Matches (if b then Some x else extent_of (filter_map axis (zip es xs)) d) (if b then Some n else axis_extent d es ns)
+      by_test rest c true = (size x h).0
+      by_test rest c false = rest
+
+      by_dimension : Matches (extent_of (filter_map axis (zip es xs)) d) (axis_extent d es ns) → (o : Option ℕ) → Matches (extent_of (cons_option (axis_by o x) (filter_map axis (zip es xs))) d) (if option_map_or (λ k. k == d) o false then Some n else axis_extent d es ns)
+      by_dimension rest None = rest
+      by_dimension rest (Some c) = by_test rest c (c == d)
 
 -- along an operand, whose map has a result for each axis
 operand_matches : (d : ℕ) (m : MapShape) (o : Option Ty) (x : Datum) → length m.results ≡ length (extents_of o) → HoldsIn o x → Matches (extent_of (operand_axes m o) d) (axis_extent d m.results (grid_of x).extents)
@@ -277,12 +281,12 @@ module _ (t : Types) (values : ℕ → Datum) (k : AllHold t values) (n : ℕ) (
   all_match [] (m ∷ []) l f o d =
       first_matches_none (extent_of (operand_axes m (t outs.0)) d) (axis_extent d m.results (grid_of (values outs.0)).extents)
       (operand_matches d m (t outs.0) (values outs.0) (fits_length n m (t outs.0) o) (k outs.0)) where
-    first_matches_none : (a : Option Extent) (x : Option ℕ) → Matches a x → Matches a (first x None)
-    first_matches_none None None h = h
-    first_matches_none (Some e) (Some y) h = h
-    first_matches_none None (Some y) h = absurd h
-    first_matches_none (Some (Fixed e)) None h = absurd h
-    first_matches_none (Some Any) None h = absurd h
+        first_matches_none : (a : Option Extent) (x : Option ℕ) → Matches a x → Matches a (first x None)
+        first_matches_none None None h = h
+        first_matches_none (Some e) (Some y) h = h
+        first_matches_none None (Some y) h = absurd h
+        first_matches_none (Some (Fixed e)) None h = absurd h
+        first_matches_none (Some Any) None h = absurd h
   all_match [] (m ∷ q ∷ ms) l f o d = absurd (omega arith)
   all_match (v ∷ ins) [] l f o d = absurd (omega arith)
   all_match (v ∷ ins) (m ∷ []) l f o d = absurd (omega arith)
@@ -310,9 +314,9 @@ picked P [] d y h e = absurd cc
 picked P (a ∷ all) d y h e =
     let both = and_parts (P a) (list_all P all) h in
     by_test (a.0 == d) refl both.0 (λ q. picked P all d y both.1 q) e where
-  by_test : (b : Bool) → (a.0 == d) ≡ b → P a ≡ true → (extent_of all d ≡ Some y → P (d, y) ≡ true) → (if b then Some a.1 else extent_of all d) ≡ Some y → P (d, y) ≡ true
-  by_test true q here later e = (λ j. P (sym (eqb-true a.0 d q) j, sym (same_Some a.1 y e) j)) ∙ here
-  by_test false q here later e = later e
+      by_test : (b : Bool) → (a.0 == d) ≡ b → P a ≡ true → (extent_of all d ≡ Some y → P (d, y) ≡ true) → (if b then Some a.1 else extent_of all d) ≡ Some y → P (d, y) ≡ true
+      by_test true q here later e = (λ j. P (sym (eqb-true a.0 d q) j, sym (same_Some a.1 y e) j)) ∙ here
+      by_test false q here later e = later e
 
 -- a size for each dimension, by the extents of types
 module _ (all : List Axis) (agree : axes_agree all ≡ true) (n : ℕ) (size : ℕ → Option ℕ) (matches : (d : ℕ) → Matches (extent_of all d) (size d))
@@ -373,32 +377,34 @@ module _ (all : List Axis) (agree : axes_agree all ≡ true) (n : ℕ) (size : �
     unfolding axis_by
     axis_inside e x size_of plains sized agrees stays =
         by_dimension (dimension_of e) refl agrees stays where
-      value : to_nat (value_at e (map pos p)) ≡ to_nat e.constant + weight e.terms (λ d. get_or p d 0)
-      value = value_is n e p plains
-      fixed_size : (x : Extent) (m : ℕ) → x ≡ Fixed m → IsSized (x ∷ []) (size_of ∷ []) → size_of ≡ m
-      fixed_size (Fixed i) m e h = h.0 ∙ of_fixed i m e where
-        of_fixed : (i m : ℕ) → Fixed i ≡ Fixed m → i ≡ m
-        of_fixed i m e = let q = e in cc
-      fixed_size Any m e h = absurd (let q = e in cc)
-      by_dimension : (o : Option ℕ) → dimension_of e ≡ o → list_all (λ a. has_extent (extent_of all a.0) a.1) (cons_option (axis_by o x) []) ≡ true →
-          (is_some o || is_below (greatest_value (extent_of all) e) x) ≡ true → to_nat (value_at e (map pos p)) < size_of
-      by_dimension (Some d) q a s =
-          let l = alone_below n e d plains q in
-          let y = known d l in
-          let h : has_extent (extent_of all d) x ≡ true = (and_parts (has_extent (extent_of all d) x) true a).0 in
-          let same : x ≡ Fixed y.extent = same_Some x (Fixed y.extent) (sym (has_is (extent_of all d) x h) ∙ y.is) in
-          let b = coordinate_below d y.extent l y.is in
-          let v = alone_value e d (λ d. get_or p d 0) q in
-          omega (arith, value, v, b, fixed_size x y.extent same sized)
-      by_dimension None q a s = by_extent x sized s where
-        by_extent : (x : Extent) → IsSized (x ∷ []) (size_of ∷ []) → is_below (greatest_value (extent_of all) e) x ≡ true → to_nat (value_at e (map pos p)) < size_of
-        by_extent (Fixed m) h s =
-            let g : greatest_value (extent_of all) e ≡ pos (to_nat e.constant + weight e.terms top) =
-            (λ j. plains.0 j +ℤ sum_is n e.terms (λ d. greatest (extent_of all d)) top plains.1 greatest_is j) in
-            let l : to_nat e.constant + weight e.terms top < m = ltb-true _ m (ap (λ z. int_lt z (pos m)) (sym g) ∙ s) in
-            let w = weight_le n e.terms (λ d. get_or p d 0) top plains.1 under_top in
-            omega (arith, value, l, w, h.0)
-        by_extent Any h s = absurd cc
+          value : to_nat (value_at e (map pos p)) ≡ to_nat e.constant + weight e.terms (λ d. get_or p d 0)
+          value = value_is n e p plains
+
+          fixed_size : (x : Extent) (m : ℕ) → x ≡ Fixed m → IsSized (x ∷ []) (size_of ∷ []) → size_of ≡ m
+          fixed_size (Fixed i) m e h = h.0 ∙ of_fixed i m e where
+            of_fixed : (i m : ℕ) → Fixed i ≡ Fixed m → i ≡ m
+            of_fixed i m e = let q = e in cc
+          fixed_size Any m e h = absurd (let q = e in cc)
+
+          by_dimension : (o : Option ℕ) → dimension_of e ≡ o → list_all (λ a. has_extent (extent_of all a.0) a.1) (cons_option (axis_by o x) []) ≡ true →
+              (is_some o || is_below (greatest_value (extent_of all) e) x) ≡ true → to_nat (value_at e (map pos p)) < size_of
+          by_dimension (Some d) q a s =
+              let l = alone_below n e d plains q in
+              let y = known d l in
+              let h : has_extent (extent_of all d) x ≡ true = (and_parts (has_extent (extent_of all d) x) true a).0 in
+              let same : x ≡ Fixed y.extent = same_Some x (Fixed y.extent) (sym (has_is (extent_of all d) x h) ∙ y.is) in
+              let b = coordinate_below d y.extent l y.is in
+              let v = alone_value e d (λ d. get_or p d 0) q in
+              omega (arith, value, v, b, fixed_size x y.extent same sized)
+          by_dimension None q a s = by_extent x sized s where
+            by_extent : (x : Extent) → IsSized (x ∷ []) (size_of ∷ []) → is_below (greatest_value (extent_of all) e) x ≡ true → to_nat (value_at e (map pos p)) < size_of
+            by_extent (Fixed m) h s =
+                let g : greatest_value (extent_of all) e ≡ pos (to_nat e.constant + weight e.terms top) =
+                (λ j. plains.0 j +ℤ sum_is n e.terms (λ d. greatest (extent_of all d)) top plains.1 greatest_is j) in
+                let l : to_nat e.constant + weight e.terms top < m = ltb-true _ m (ap (λ z. int_lt z (pos m)) (sym g) ∙ s) in
+                let w = weight_le n e.terms (λ d. get_or p d 0) top plains.1 under_top in
+                omega (arith, value, l, w, h.0)
+            by_extent Any h s = absurd cc
 
     one_axis : (o : Option Axis) (rest : List Axis) (P : Axis → Bool) → list_all P (cons_option o rest) ≡ true → (list_all P (cons_option o []) ≡ true) × (list_all P rest ≡ true)
     one_axis None rest P h = (refl, h)
@@ -456,9 +462,77 @@ module _ (all : List Axis) (agree : axes_agree all ≡ true) (n : ℕ) (size : �
     none None e z = absurd cc
     none (Some Any) e z = absurd cc
     none (Some (Fixed k)) e z = absurd (let b = coordinate_below p inside a k (omega (arith, l)) e in let q = eqb-true k 0 z in omega (arith, b, q))
+
     by_test : (b : Bool) → is_zero_extent (extent_of all a) ≡ b → (list_any (λ i. is_zero_extent (extent_of all i.0)) (enumerate_from (a + 1) kinds) ≡ true → ⊥) → (b || list_any (λ i. is_zero_extent (extent_of all i.0)) (enumerate_from (a + 1) kinds)) ≡ true → ⊥
     by_test true e later h = none (extent_of all a) refl e
     by_test false e later h = later h
+
+  -- every axis that a dimension alone selects has the dimension's extent
+  selected_is : (d : ℕ) (o : Option ℕ) → option_map_or (λ k. k == d) o false ≡ true → o ≡ Some d
+  selected_is d None h = absurd cc
+  selected_is d (Some c) h = ap Some (eqb-true c d h)
+
+  none_have : (d m : ℕ) (es : List Expr) → AxesHave d m es []
+  none_have d m [] = tt
+  none_have d m (e ∷ es) = tt
+
+  split_axis : (o : Option Axis) (rest : List Axis) (P : Axis → Bool) → list_all P (cons_option o rest) ≡ true → (list_all P (cons_option o []) ≡ true) × (list_all P rest ≡ true)
+  split_axis None rest P h = (refl, h)
+  split_axis (Some a) rest P h = let both = and_parts (P a) (list_all P rest) h in (and_from _ _ both.0 refl, both.1)
+
+  split_size : (x : Extent) (xs : List Extent) (m : ℕ) (ns : List ℕ) → IsSized (x ∷ xs) (m ∷ ns) → IsSized (x ∷ []) (m ∷ []) × IsSized xs ns
+  split_size (Fixed i) xs m ns h = ((h.0, tt), h.1)
+  split_size Any xs m ns h = (tt, h)
+
+  axis_has : (d m : ℕ) → extent_of all d ≡ Some (Fixed m) → (e : Expr) (x : Extent) (i : ℕ) → IsSized (x ∷ []) (i ∷ []) →
+      list_all (λ a. has_extent (extent_of all a.0) a.1) (cons_option (axis (e, x)) []) ≡ true → selects d e ≡ true → i ≡ m
+  unfolding axis_by
+  axis_has d m known e x i sized agrees s =
+      let alone : dimension_of e ≡ Some d = sym (dimension_same e) ∙ selected_is d (points.dimension_of e) s in
+      let here : list_all (λ a. has_extent (extent_of all a.0) a.1) (cons_option (axis_by (Some d) x) []) ≡ true =
+      subst (λ o. list_all (λ a. has_extent (extent_of all a.0) a.1) (cons_option (axis_by o x) []) ≡ true) alone agrees in
+      by_extent x sized (same_Some x (Fixed m) (sym (has_is (extent_of all d) x (and_parts (has_extent (extent_of all d) x) true here).0) ∙ known)) where
+        by_extent : (x : Extent) → IsSized (x ∷ []) (i ∷ []) → x ≡ Fixed m → i ≡ m
+        by_extent (Fixed k) h e = h.0 ∙ of_fixed k e where
+          of_fixed : (k : ℕ) → Fixed k ≡ Fixed m → k ≡ m
+          of_fixed k e = let q = e in cc
+        by_extent Any h e = absurd (let q = e in cc)
+
+  axes_have : (d m : ℕ) → extent_of all d ≡ Some (Fixed m) → (es : List Expr) (xs : List Extent) (ns : List ℕ) → IsSized xs ns →
+      list_all (λ a. has_extent (extent_of all a.0) a.1) (filter_map axis (zip es xs)) ≡ true → AxesHave d m es ns
+  axes_have d m known [] xs ns h a = tt
+  axes_have d m known (e ∷ es) [] [] h a = tt
+  axes_have d m known (e ∷ es) [] (i ∷ ns) h a = absurd h
+  axes_have d m known (e ∷ es) (Fixed i ∷ xs) [] h a = absurd h
+  axes_have d m known (e ∷ es) (Any ∷ xs) [] h a = absurd h
+  axes_have d m known (e ∷ es) (x ∷ xs) (i ∷ ns) h a =
+      let sizes = split_size x xs i ns h in
+      let agrees = split_axis (axis (e, x)) (filter_map axis (zip es xs)) (λ a. has_extent (extent_of all a.0) a.1) a in
+      (axis_has d m known e x i sizes.0 agrees.0, axes_have d m known es xs ns sizes.1 agrees.1)
+
+  operand_has : (d m : ℕ) → extent_of all d ≡ Some (Fixed m) → (q : MapShape) (o : Option Ty) (x : Datum) → is_read o ≡ true → HoldsIn o x →
+      list_all (λ a. has_extent (extent_of all a.0) a.1) (operand_axes q o) ≡ true → AxesHave d m q.results (grid_of x).extents
+  operand_has d m known q (Some (Tensor xs w)) (Cells v g) r h a = axes_have d m known q.results xs g.extents h.1 a
+  operand_has d m known q (Some (Tensor xs w)) (Number i) r h a = none_have d m q.results
+  operand_has d m known q (Some (Tensor xs w)) (Bits b) r h a = none_have d m q.results
+  operand_has d m known q (Some (Scalar e)) (Number i) r h a = none_have d m q.results
+  operand_has d m known q (Some (Scalar e)) (Bits b) r h a = none_have d m q.results
+  operand_has d m known q (Some (Scalar (Int w))) (Cells v g) r h a = absurd h
+  operand_has d m known q (Some (Scalar Index)) (Cells v g) r h a = absurd h
+  operand_has d m known q (Some (Vector xs w)) x r h a = absurd cc
+  operand_has d m known q None x r h a = absurd cc
+
+matched_some : (o : Option Extent) (s : Option ℕ) → Matches o s → is_some o ≡ true → is_some s ≡ true
+matched_some None s h i = absurd cc
+matched_some (Some (Fixed n)) (Some m) h i = refl
+matched_some (Some Any) (Some m) h i = refl
+matched_some (Some (Fixed n)) None h i = absurd h
+matched_some (Some Any) None h i = absurd h
+
+box_at : (g : ℕ → ℕ) (a n d : ℕ) → d < n → get_or (map g (count_up a n)) d 0 ≡ g (a + d)
+box_at g a zero d l = absurd (omega arith)
+box_at g a (suc n) zero l = ap g (let e : a ≡ a + 0 = omega arith in e)
+box_at g a (suc n) (suc d) l = box_at g (a + 1) n d (omega arith) ∙ ap g (let e : a + 1 + d ≡ a + suc d = omega arith in e)
 
 -- each numbered item
 numbered_at : (test : ℕ → Bool) (a : ℕ) (kinds : List Iter) → list_all (λ (i : ℕ × Iter). test i.0) (enumerate_from a kinds) ≡ true → (d : ℕ) → d < length kinds → test (a + d) ≡ true
@@ -532,8 +606,7 @@ module _ (t : Types) (values : ℕ → Datum) (k : AllHold t values) (maps : Lis
   each_inside [] vs l made f o a s reads = absurd (omega arith)
   each_inside (m ∷ []) [] l made f o a s reads =
       let both = and_parts (fits_operand n m (t outs.0)) _ o in
-      let alone = and_parts (list_all (λ e. is_some (dimension_of e)) m.results) _ both.1 in
-      (
+      let alone = and_parts (list_all (λ e. is_some (dimension_of e)) m.results) _ both.1 in (
         operand_inside all r.agree n size sizes_match covered m (t outs.0) (values outs.0) r.output_type (k outs.0) both.0 (and_parts (map_fits m) _ made).0 a
             (alone_stay (extent_of all) m.results (extents_of (t outs.0)) alone.0),
         tt,
@@ -550,8 +623,7 @@ module _ (t : Types) (values : ℕ → Datum) (k : AllHold t values) (maps : Lis
       (λ j. (operand_axes m (t v.0) ++ flat_map (λ (x : MapShape × ValueId). operand_axes x.0 (t (x.1).0)) (zip (q ∷ qs) vs)) ++ output_axes (later_output m q qs j) (t outs.0))
       ∙ append_assoc (operand_axes m (t v.0)) (flat_map (λ (x : MapShape × ValueId). operand_axes x.0 (t (x.1).0)) (zip (q ∷ qs) vs)) (output_axes (output_map (q ∷ qs)) (t outs.0)) in
       let agrees = and_parts (list_all P (operand_axes m (t v.0))) (list_all P (axes t (q ∷ qs) vs outs))
-      (sym (list_all-append P (operand_axes m (t v.0)) (axes t (q ∷ qs) vs outs)) ∙ ap (list_all P) (sym whole) ∙ a) in
-      (
+      (sym (list_all-append P (operand_axes m (t v.0)) (axes t (q ∷ qs) vs outs)) ∙ ap (list_all P) (sym whole) ∙ a) in (
         operand_inside all r.agree n size sizes_match covered m (t v.0) (values v.0) types.0 (k v.0) fits.0 makes.0 agrees.0 stays.0,
         each_inside (q ∷ qs) vs (omega arith) makes.1 fits.1
             (ap (λ x. on_output x (λ m. fits_operand n m (t outs.0) && is_projected_permutation m)) (sym (later_output m q qs)) ∙ o) agrees.1 stays.1 types.1,
@@ -565,3 +637,31 @@ module _ (t : Types) (values : ℕ → Datum) (k : AllHold t values) (maps : Lis
         no_points_inside (generic_box maps n operands) maps operands (r.long ∙ sym (operands_length values ins (values outs.0)))
         (λ p i. zero_inside all r.agree n size sizes_match covered p 0 0 iterators (omega arith) e i)
     by_points false e h = each_inside maps ins r.long r.made r.inputs r.output r.agree h r.input_types
+
+  each_has : (d m : ℕ) → extent_of all d ≡ Some (Fixed m) → (qs : List MapShape) (vs : List ValueId) → length qs ≡ suc (length vs) →
+      list_all (λ a. has_extent (extent_of all a.0) a.1) (axes t qs vs outs) ≡ true → list_all (λ (v : ValueId). is_read (t v.0)) vs ≡ true →
+      AllHave d m qs (values_in values vs ++ values outs.0 ∷ [])
+  each_has d m known [] vs l a reads = absurd (omega arith)
+  each_has d m known (q ∷ []) [] l a reads =
+      (operand_has all r.agree n size sizes_match covered d m known q (t outs.0) (values outs.0) r.output_type (k outs.0) a, tt)
+  each_has d m known (q ∷ q' ∷ qs) [] l a reads = absurd (omega arith)
+  each_has d m known (q ∷ []) (v ∷ vs) l a reads = absurd (omega arith)
+  each_has d m known (q ∷ q' ∷ qs) (v ∷ vs) l a reads =
+      let types = and_parts (is_read (t v.0)) _ reads in
+      let P : Axis → Bool = λ a. has_extent (extent_of all a.0) a.1 in
+      let whole : axes t (q ∷ q' ∷ qs) (v ∷ vs) outs ≡ operand_axes q (t v.0) ++ axes t (q' ∷ qs) vs outs =
+      (λ j. (operand_axes q (t v.0) ++ flat_map (λ (x : MapShape × ValueId). operand_axes x.0 (t (x.1).0)) (zip (q' ∷ qs) vs)) ++ output_axes (later_output q q' qs j) (t outs.0))
+      ∙ append_assoc (operand_axes q (t v.0)) (flat_map (λ (x : MapShape × ValueId). operand_axes x.0 (t (x.1).0)) (zip (q' ∷ qs) vs)) (output_axes (output_map (q' ∷ qs)) (t outs.0)) in
+      let agrees = and_parts (list_all P (operand_axes q (t v.0))) (list_all P (axes t (q' ∷ qs) vs outs))
+      (sym (list_all-append P (operand_axes q (t v.0)) (axes t (q' ∷ qs) vs outs)) ∙ ap (list_all P) (sym whole) ∙ a) in
+      (operand_has all r.agree n size sizes_match covered d m known q (t v.0) (values v.0) types.0 (k v.0) agrees.0, each_has d m known (q' ∷ qs) vs (omega arith) agrees.1 types.1)
+
+  pub has_box : HasBox maps n operands
+  has_box = record {
+    agrees = λ d l.
+        let e = known all r.agree n size sizes_match covered d l in
+        let s : get_or (generic_box maps n operands) d 0 ≡ e.extent =
+        box_at (λ d. unwrap_or (size d) 0) 0 n d l ∙ ap (λ k. unwrap_or (size k) 0) (let q : 0 + d ≡ d = omega arith in q) ∙ sized_dimension all r.agree n size sizes_match covered d e.extent e.is in
+        subst (λ i. AllHave d i maps operands) (sym s) (each_has d e.extent e.is maps ins r.long r.agree r.input_types);
+    selected = λ d l. matched_some (extent_of all d) (size d) (sizes_match d) (covered d l);
+  }

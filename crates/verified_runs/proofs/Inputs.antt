@@ -1,5 +1,5 @@
 -- What a payload is given at a point is in its types, and what it gives is in its output's type.
-use Rattle.std.proofs.Common.{◌≡◌, ℕ, zero, suc, ◌^◌, ◌<◌, ◌≤◌, ◌==◌, Bool, true, IsTrue, List, [], ◌∷◌, length, Option, Some, None, IfSome, option_map, option_and_then, get_or, refl, subst, arith, eqb-true, pow_pos}
+use Rattle.std.proofs.Common.{◌≡◌, ℕ, ◌^◌, ◌<◌, ◌≤◌, ◌==◌, Bool, true, IsTrue, List, [], ◌∷◌, length, Option, Some, None, IfSome, option_map, option_and_then, refl, subst, arith, eqb-true, pow_pos}
 use Rattle.std.specs.Prelude.{⊤}
 use Rattle.std.specs.List.{list_all, zip}
 use Rattle.std.proofs.lemmas.Bool.{and_parts, and_from}
@@ -15,7 +15,6 @@ use Rattle.mlir_ir.specs.declared.tree.Extent.{Extent}
 use Rattle.mlir_ir.specs.declared.tree.Ty.{Ty}
 use Rattle.mlir_ir.specs.declared.tree.Ty.TheVariants.{Scalar, Tensor, Vector}
 use Rattle.mlir_ir.specs.declared.tree.ValueId.{ValueId}
-use Rattle.mlir_meaning.specs.Grids.{Each}
 use Rattle.mlir_meaning.proofs.Grids.{at-each}
 use Rattle.mlir_meaning.specs.Points.{map_point}
 use Rattle.mlir_meaning.specs.States.{element}

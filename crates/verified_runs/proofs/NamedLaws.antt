@@ -1,16 +1,13 @@
 -- A structured operation is its generic, which passes the verifier.
-use Rattle.std.proofs.Common.{◌≡◌, ◌&&◌, Bool, true, false, not, List, [], ◌∷◌, map, Option, Some, None, refl, ap, sym, subst, ◌∙◌}
+use Rattle.std.proofs.Common.{◌≡◌, ◌&&◌, Bool, true, false, not, List, [], ◌∷◌, Option, Some, None, refl, ap, sym, subst, ◌∙◌}
 use Rattle.std.specs.List.{list_all}
-use Rattle.std.proofs.lemmas.Bool.{and_parts, and_from}
+use Rattle.std.proofs.lemmas.Bool.{and_parts}
 use Rattle.std.proofs.lemmas.Option.{same_Some}
 use Rattle.mlir_ir.specs.Count.{operands}
-use Rattle.mlir_ir.specs.declared.tree.Op.{Op}
-use Rattle.mlir_ir.specs.declared.tree.OpId.{OpId}
 use Rattle.mlir_ir.specs.declared.tree.Ty.{Ty}
 use Rattle.mlir_ir.specs.declared.tree.ValueId.{ValueId}
 use Rattle.mlir_ir.specs.declared.tree.OpKind.{OpKind, Generic, Fill, Matmul, BatchMatmul, Transpose, Broadcast}
 use Rattle.mlir_meaning.specs.Meaning.{kind_meaning}
-use Rattle.mlir_meaning.specs.Structured.{fill_form, transpose_form, broadcast_form, matmul_form, batch_matmul_form}
 use Rattle.mlir_verify.specs.Place.{Types, type_among}
 use Rattle.mlir_verify.specs.Built.{is_built_type, is_built_kind, is_built}
 use Rattle.mlir_verify.specs.Constants.{Constants}
@@ -21,7 +18,6 @@ use Rattle.mlir_verify.specs.Maps.{axes, breaks_maps, breaks_iterators}
 use Rattle.mlir_verify.specs.Extents.{axes_agree, has_extents_of, keeps_extents, breaks_extents}
 use Rattle.mlir_verify.specs.Windows.{breaks_windows}
 use Rattle.verified_runs.specs.Typed.{types_of}
-use Rattle.verified_runs.specs.Passes.{Scope, OpPasses}
 use Rattle.verified_runs.specs.Forms.{Structured, kind_of, structured_of, is_generic}
 use Rattle.verified_runs.specs.Laws.{NamedMeansGeneric, GenericPasses}
 use Rattle.verified_runs.proofs.Named.{same_kind}
@@ -52,6 +48,7 @@ same_result rs qs e = of_types rs ∙ ap one_of e ∙ sym (of_types qs) where
   one_of [] = None
   one_of (t ∷ []) = Some t
   one_of (t ∷ u ∷ ts) = None
+
   of_types : (rs : List (ValueId × Ty)) → result_type rs ≡ one_of (types_of rs)
   of_types [] = refl
   of_types (r ∷ []) = refl
@@ -105,8 +102,8 @@ generic_passes scope wanted o g i results passes e types news =
       extents = rules.extents;
       windows = rules.windows;
     } where
-  by_kind : (b : Bool) → is_generic o.kind ≡ b → result_type o.results ≡ result_type results → KeepsRules (type_among scope) passes.constants wanted results (kind_of g)
-  by_kind true b same =
-      subst (KeepsRules (type_among scope) passes.constants wanted results) (sym (own_kind (type_among scope) o.kind g e b))
-      (generic_kept (type_among scope) passes.constants wanted results o.results same o.kind b passes.typed passes.maps passes.iterators passes.extents passes.windows)
-  by_kind false b same = named_passes (type_among scope) passes.constants wanted results o.results o.kind g same passes.typed (not_false _ passes.extents) e b
+      by_kind : (b : Bool) → is_generic o.kind ≡ b → result_type o.results ≡ result_type results → KeepsRules (type_among scope) passes.constants wanted results (kind_of g)
+      by_kind true b same =
+          subst (KeepsRules (type_among scope) passes.constants wanted results) (sym (own_kind (type_among scope) o.kind g e b))
+          (generic_kept (type_among scope) passes.constants wanted results o.results same o.kind b passes.typed passes.maps passes.iterators passes.extents passes.windows)
+      by_kind false b same = named_passes (type_among scope) passes.constants wanted results o.results o.kind g same passes.typed (not_false _ passes.extents) e b

@@ -1,13 +1,13 @@
 -- The generic that a named operation is passes the rules V2 and V5 to V8 where the operation does.
-use Rattle.std.proofs.Common.{◌≡◌, ℕ, suc, ◌+◌, ◌<◌, ◌≤◌, ◌==◌, ◌||◌, ◌&&◌, Bool, true, false, List, [], ◌∷◌, ◌++◌, map, length, replicate, append-nil, Option, Some, None, refl, ap, sym, subst, ◌∙◌, arith, eq-eqb, eqb-true, ltb-true, lt-ltb, zero-add}
+use Rattle.std.proofs.Common.{◌≡◌, ℕ, suc, ◌+◌, ◌<◌, ◌≤◌, ◌==◌, ◌||◌, ◌&&◌, Bool, true, false, List, [], ◌∷◌, ◌++◌, map, length, replicate, append-nil, Option, Some, None, refl, ap, sym, subst, ◌∙◌, arith, eq-eqb, eqb-true, ltb-true, zero-add}
 use Rattle.std.specs.Prelude.{nat_lt, nat_le, not, is_some, slice_get, if◌then◌else◌}
 use Rattle.std.specs.List.{list_all, zip, filter_map, enumerate_from}
-use Rattle.std.proofs.lemmas.Bool.{and_parts, and_from, ne_eqb}
-use Rattle.std.proofs.lemmas.Bool.Decides.{eqb_tells, nat_tests}
+use Rattle.std.proofs.lemmas.Bool.{and_parts, and_from}
+use Rattle.std.proofs.lemmas.Bool.Decides.{nat_tests}
 use Rattle.std.proofs.lemmas.List.{length-map, length-replicate}
 use Rattle.std.proofs.lemmas.Option.{same_Some, slice_get_within}
 use Rattle.affine_maps.specs.Shape.{MapShape}
-use Rattle.affine_maps.specs.Map.{map_fits, dimension, dimensions, identity_of}
+use Rattle.affine_maps.specs.Map.{map_fits, dimension, identity_of}
 use Rattle.affine_maps.specs.Permutation.{is_among, repeats, is_projected_permutation}
 use Rattle.payload_ops.specs.Payload.{payload_fits}
 use Rattle.payload_ops.specs.Shape.{PayloadShape}
@@ -37,7 +37,7 @@ use Rattle.mlir_verify.specs.Windows.{has_no_points, operand_stays_in, inputs_st
 use Rattle.mlir_verify.proofs.Broadcasts.{extents_from, named_is_left_out, other_is_kept, same_first}
 use Rattle.verified_runs.specs.Forms.{Structured, kind_of, width_in, structured_of, is_generic}
 use Rattle.verified_runs.proofs.Orders.{has_each}
-use Rattle.verified_runs.proofs.Selecting.{selected_axes, same_is, same_left, has_is, same_fixed, count_length, counted_dimensions, selecting_is_map, identity_is_map, none_negative, identity_permutes, identity_parallel, Right, all_axes, axes_fit, axes_cover, right_below, all_stay}
+use Rattle.verified_runs.proofs.Selecting.{selected_axes, same_is, same_left, has_is, same_fixed, count_length, counted_dimensions, selecting_is_map, identity_is_map, none_negative, identity_permutes, identity_parallel, Right, axes_fit, axes_cover, right_below, all_stay}
 
 or_true : (a b : Bool) → b ≡ true → (a || b) ≡ true
 or_true true b e = refl
@@ -96,13 +96,13 @@ at_place (n ∷ order) xs [] k p h l a = absurd (omega arith)
 at_place (n ∷ order) xs (y ∷ ys) k p h l a =
     let both : (has_extent (slice_get xs n) y ≡ true) × (is_transposed order xs ys ≡ true) = and_parts (has_extent (slice_get xs n) y) _ h in
     by_test (n == k) refl both.0 (λ c. at_place order xs ys k (p + 1) both.1 (omega arith) c) a where
-  by_test : (b : Bool) → (n == k) ≡ b → has_extent (slice_get xs n) y ≡ true →
-      (is_among k order ≡ true → (j : ℕ) × (place_of k (p + 1) order ≡ p + 1 + j) × (slice_get ys j ≡ slice_get xs k)) → (b || is_among k order) ≡ true →
-      (j : ℕ) × ((if b then p else place_of k (p + 1) order) ≡ p + j) × (slice_get (y ∷ ys) j ≡ slice_get xs k)
-  by_test true e here later c = (0, omega arith, sym (has_is (slice_get xs n) y here) ∙ ap (slice_get xs) (eqb-true n k e))
-  by_test false e here later c =
-      let r = later c in
-      (suc r.0, (let q = r.1 in omega (arith, q)), r.2)
+      by_test : (b : Bool) → (n == k) ≡ b → has_extent (slice_get xs n) y ≡ true →
+          (is_among k order ≡ true → (j : ℕ) × (place_of k (p + 1) order ≡ p + 1 + j) × (slice_get ys j ≡ slice_get xs k)) → (b || is_among k order) ≡ true →
+          (j : ℕ) × ((if b then p else place_of k (p + 1) order) ≡ p + j) × (slice_get (y ∷ ys) j ≡ slice_get xs k)
+      by_test true e here later c = (0, omega arith, sym (has_is (slice_get xs n) y here) ∙ ap (slice_get xs) (eqb-true n k e))
+      by_test false e here later c =
+          let r = later c in
+          (suc r.0, (let q = r.1 in omega (arith, q)), r.2)
 
 -- THE AXES OF A BROADCAST
 module _ (ys : List Extent) (fixed : list_all is_fixed ys ≡ true) where
@@ -113,23 +113,25 @@ module _ (ys : List Extent) (fixed : list_all is_fixed ys ≡ true) where
   broadcast_right named a [] (x ∷ xs) h k = absurd (let e = eqb-true 0 (length (x ∷ xs)) (and_parts (0 == length (x ∷ xs)) _ h).0 in omega (arith, e))
   broadcast_right named a (z ∷ zs) xs h k =
       by_test (is_among a named) refl (λ xs same. broadcast_right named (a + 1) zs xs same (λ d x e. ap (slice_get ys) (let q : a + 1 + d ≡ a + suc d = omega arith in q) ∙ k (suc d) x e)) where
-    there : ((xs : List Extent) → are_same_extents (extents_from named (a + 1) zs) xs ≡ true → Each (Right ys fixed) (zip (kept named (a + 1) (count_up (a + 1) (length zs))) xs) × (length (kept named (a + 1) (count_up (a + 1) (length zs))) ≡ length xs)) → (xs : List Extent) → are_same_extents (z ∷ extents_from named (a + 1) zs) xs ≡ true → Each (Right ys fixed) (zip (a ∷ kept named (a + 1) (count_up (a + 1) (length zs))) xs) × (length (a ∷ kept named (a + 1) (count_up (a + 1) (length zs))) ≡ length xs)
-    there later [] h = absurd (let e = eqb-true (length (z ∷ extents_from named (a + 1) zs)) 0 (and_parts (length (z ∷ extents_from named (a + 1) zs) == 0) _ h).0 in omega (arith, e))
-    there later (x ∷ xs) h =
-        let both = and_parts (is_same_extent z x) _ (sym (same_first z x (extents_from named (a + 1) zs) xs) ∙ h) in
-        let more = later xs both.1 in
-        ((ap (slice_get ys) (let q : a ≡ a + 0 = omega arith in q) ∙ k 0 z refl ∙ ap Some (same_is z x both.0), more.0), ap suc more.1)
-    by_test : (b : Bool) → is_among a named ≡ b →
-        ((xs : List Extent) → are_same_extents (extents_from named (a + 1) zs) xs ≡ true → Each (Right ys fixed) (zip (kept named (a + 1) (count_up (a + 1) (length zs))) xs) × (length (kept named (a + 1) (count_up (a + 1) (length zs))) ≡ length xs)) →
-        Each (Right ys fixed) (zip (if b then kept named (a + 1) (count_up (a + 1) (length zs)) else a ∷ kept named (a + 1) (count_up (a + 1) (length zs))) xs) × (length (if b then kept named (a + 1) (count_up (a + 1) (length zs)) else a ∷ kept named (a + 1) (count_up (a + 1) (length zs))) ≡ length xs)
-    by_test true e later = later xs (ap (λ es. are_same_extents es xs) (sym (named_is_left_out named a z zs e)) ∙ h)
-    by_test false e later = there later xs (ap (λ es. are_same_extents es xs) (sym (other_is_kept named a z zs e)) ∙ h)
+        there : ((xs : List Extent) → are_same_extents (extents_from named (a + 1) zs) xs ≡ true → Each (Right ys fixed) (zip (kept named (a + 1) (count_up (a + 1) (length zs))) xs) × (length (kept named (a + 1) (count_up (a + 1) (length zs))) ≡ length xs)) → (xs : List Extent) → are_same_extents (z ∷ extents_from named (a + 1) zs) xs ≡ true → Each (Right ys fixed) (zip (a ∷ kept named (a + 1) (count_up (a + 1) (length zs))) xs) × (length (a ∷ kept named (a + 1) (count_up (a + 1) (length zs))) ≡ length xs)
+        there later [] h = absurd (let e = eqb-true (length (z ∷ extents_from named (a + 1) zs)) 0 (and_parts (length (z ∷ extents_from named (a + 1) zs) == 0) _ h).0 in omega (arith, e))
+        there later (x ∷ xs) h =
+            let both = and_parts (is_same_extent z x) _ (sym (same_first z x (extents_from named (a + 1) zs) xs) ∙ h) in
+            let more = later xs both.1 in
+            ((ap (slice_get ys) (let q : a ≡ a + 0 = omega arith in q) ∙ k 0 z refl ∙ ap Some (same_is z x both.0), more.0), ap suc more.1)
+
+        by_test : (b : Bool) → is_among a named ≡ b →
+            ((xs : List Extent) → are_same_extents (extents_from named (a + 1) zs) xs ≡ true → Each (Right ys fixed) (zip (kept named (a + 1) (count_up (a + 1) (length zs))) xs) × (length (kept named (a + 1) (count_up (a + 1) (length zs))) ≡ length xs)) →
+            Each (Right ys fixed) (zip (if b then kept named (a + 1) (count_up (a + 1) (length zs)) else a ∷ kept named (a + 1) (count_up (a + 1) (length zs))) xs) × (length (if b then kept named (a + 1) (count_up (a + 1) (length zs)) else a ∷ kept named (a + 1) (count_up (a + 1) (length zs))) ≡ length xs)
+        by_test true e later = later xs (ap (λ es. are_same_extents es xs) (sym (named_is_left_out named a z zs e)) ∙ h)
+        by_test false e later = there later xs (ap (λ es. are_same_extents es xs) (sym (other_is_kept named a z zs e)) ∙ h)
 
 -- PRODUCTS
 product_payload : (narrow width : ℕ) → 0 < narrow → narrow ≤ width → payload_fits (multiply_add narrow width) ≡ true
 product_payload narrow width some small = by_tests (width == 1) (nat_lt narrow width) refl refl where
   own : (width == width) ≡ true
   own = eq-eqb width width refl
+
   by_tests : (b c : Bool) → (width == 1) ≡ b → nat_lt narrow width ≡ c →
       let steps : List PayloadStep =
       if b then step_of 1 (Binary Andi (Input 0) (Input 1)) ∷ step_of 1 (Binary Ori Out (Step 0)) ∷ []
@@ -179,8 +181,8 @@ product_types (Some (Tensor xs u)) (Some (Tensor ys v)) (Some (Tensor zs w)) c d
       some = omega (arith, e, l);
       small = omega (arith, e, m);
     } where
-  below : (v w : ℕ) → nat_le v w ≡ true → v ≤ w
-  below v w h = grind (arith, nat_tests)
+      below : (v w : ℕ) → nat_le v w ≡ true → v ≤ w
+      below v w h = grind (arith, nat_tests)
 product_types (Some (Tensor xs u)) (Some (Tensor ys v)) (Some (Scalar e)) c d h = absurd (let q = (and_parts (u == v) false h).1 in cc)
 product_types (Some (Tensor xs u)) (Some (Tensor ys v)) (Some (Vector zs w)) c d h = absurd (let q = (and_parts (u == v) false h).1 in cc)
 product_types (Some (Tensor xs u)) (Some (Tensor ys v)) None c d h = absurd (let q = (and_parts (u == v) false h).1 in cc)
@@ -443,6 +445,7 @@ module _ (t : Types) (c : Constants) (wanted : List Ty) (rs : List (ValueId × T
     where
       likes : (outs : ValueId) → is_alike (t outs.0) (result_type qs) ≡ true → is_alike (t outs.0) (result_type rs) ≡ true
       likes outs h = ap (is_alike (t outs.0)) (sym e) ∙ h
+
       sized : (outs : ValueId) → has_extents_of (t outs.0) (result_type qs) ≡ true → has_extents_of (t outs.0) (result_type rs) ≡ true
       sized outs h = ap (has_extents_of (t outs.0)) (sym e) ∙ h
   named_passes qs (Matmul x y outs) g e typed extents is named =

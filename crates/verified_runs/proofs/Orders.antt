@@ -1,8 +1,8 @@
 -- Numbers below n without repeats: as many as n are all of them.
-use Rattle.std.proofs.Common.{◌≡◌, ◌≢◌, ℕ, zero, suc, ◌+◌, ◌<◌, ◌≤◌, ◌==◌, ◌||◌, ◌&&◌, Bool, true, false, List, [], ◌∷◌, length, ◌⊎◌, inl, inr, ⊎_elim, refl, ap, sym, subst, ◌∙◌, arith, eq-eqb, eqb-true, ltb-true, lt-ltb}
-use Rattle.std.specs.Prelude.{nat_lt, not, if◌then◌else◌}
+use Rattle.std.proofs.Common.{◌≡◌, ◌≢◌, ℕ, zero, suc, ◌+◌, ◌<◌, ◌≤◌, ◌==◌, ◌||◌, ◌&&◌, Bool, true, false, List, [], ◌∷◌, length, ⊎_elim, refl, ap, sym, ◌∙◌, arith, eqb-true, ltb-true, lt-ltb}
+use Rattle.std.specs.Prelude.{nat_lt, if◌then◌else◌}
 use Rattle.std.specs.List.{list_all}
-use Rattle.std.proofs.lemmas.Bool.{and_parts, and_from, ne_eqb}
+use Rattle.std.proofs.lemmas.Bool.{and_parts, and_from}
 use Rattle.std.proofs.lemmas.Bool.Decides.{eqb_tells}
 use Rattle.affine_maps.specs.Permutation.{is_among, repeats}
 
@@ -46,10 +46,10 @@ below_rest n (m ∷ ms) h a =
     let both = and_parts (nat_lt m (suc n)) _ h in
     let parts = either_part (m == n) (is_among n ms) a in
     and_from _ _ (lt-ltb m n (apart m parts.0 (ltb-true m (suc n) both.0))) (below_rest n ms both.1 parts.1) where
-  apart : (m : ℕ) → (m == n) ≡ false → m < suc n → m < n
-  apart m e l = ⊎_elim (λ t. absurd (let q : true ≡ false = sym t.0 ∙ e in cc)) (λ t. let d = t.1 in less m d l) (eqb_tells m n) where
-    less : (m : ℕ) → m ≢ n → m < suc n → m < n
-    less m d l = omega (arith, d, l)
+      apart : (m : ℕ) → (m == n) ≡ false → m < suc n → m < n
+      apart m e l = ⊎_elim (λ t. absurd (let q : true ≡ false = sym t.0 ∙ e in cc)) (λ t. let d = t.1 in less m d l) (eqb_tells m n) where
+        less : (m : ℕ) → m ≢ n → m < suc n → m < n
+        less m d l = omega (arith, d, l)
 
 below_without : (n : ℕ) (ms : List ℕ) → list_all (λ x. nat_lt x (suc n)) ms ≡ true → repeats ms ≡ false → list_all (λ x. nat_lt x n) (without n ms) ≡ true
 below_without n [] h d = refl
@@ -59,8 +59,8 @@ below_without n (m ∷ ms) h d =
     front_without n m ms (λ xs. list_all (λ x. nat_lt x n) xs ≡ true)
     (λ e. below_rest n ms both.1 (ap (λ k. is_among k ms) (sym (eqb-true m n e)) ∙ parts.0))
     (λ e. (λ j. here m e (ltb-true m (suc n) both.0) j && below_without n ms both.1 parts.1 j)) where
-  here : (m : ℕ) → (m == n) ≡ false → m < suc n → nat_lt m n ≡ true
-  here m e l = (and_parts (nat_lt m n) true (below_rest n (m ∷ []) (and_from _ _ (lt-ltb m (suc n) l) refl) (λ j. e j || false))).0
+      here : (m : ℕ) → (m == n) ≡ false → m < suc n → nat_lt m n ≡ true
+      here m e l = (and_parts (nat_lt m n) true (below_rest n (m ∷ []) (and_from _ _ (lt-ltb m (suc n) l) refl) (λ j. e j || false))).0
 
 few : (n : ℕ) (ms : List ℕ) → list_all (λ x. nat_lt x n) ms ≡ true → repeats ms ≡ false → length ms ≤ n
 few zero [] h d = omega arith

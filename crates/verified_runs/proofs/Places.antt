@@ -27,7 +27,7 @@ reads_operands N (For' var lower upper step carried shape row) b h = absurd cc
 reads_operands N (Forall' vars lower upper step shared shape row) b h = absurd cc
 reads_operands N kind b h = h
 
-defines_none : (D : ℕ → Type 0) (kind : OpKind) → is_built_kind kind ≡ true → DefinesOnly D kind
+pub defines_none : (D : ℕ → Type 0) (kind : OpKind) → is_built_kind kind ≡ true → DefinesOnly D kind
 unfolding DefinesOnly
 defines_none D (For' var lower upper step carried shape row) b = absurd cc
 defines_none D (Forall' vars lower upper step shared shape row) b = absurd cc

@@ -33,7 +33,7 @@ reused f = renamed_op (λ k. k) f (λ k. k)
 abbrev new : (ℕ → ℕ) → OpKind → OpKind
 new f = renamed (λ k. k) f (λ k. k)
 
-results_kept : (f : ℕ → ℕ) (rs : List (ValueId × Ty)) → defined (λ k. k) f (λ k. k) rs ≡ rs
+pub results_kept : (f : ℕ → ℕ) (rs : List (ValueId × Ty)) → defined (λ k. k) f (λ k. k) rs ≡ rs
 results_kept f [] = refl
 results_kept f (r ∷ rs) = λ j. r ∷ results_kept f rs j
 

@@ -1,5 +1,5 @@
 -- What an operation asks holds where it passes and the state is typed.
-use Rattle.std.proofs.Common.{◌≡◌, ℕ, suc, ◌==◌, ◌&&◌, Bool, true, false, not, List, [], ◌∷◌, length, Option, Some, None, refl, sym, subst, arith, eqb-true}
+use Rattle.std.proofs.Common.{◌≡◌, ℕ, suc, ◌==◌, Bool, true, false, not, List, [], ◌∷◌, length, refl, sym, subst, arith, eqb-true}
 use Rattle.std.specs.List.{list_all, zip}
 use Rattle.std.proofs.lemmas.Bool.{and_parts, and_from}
 use Rattle.affine_maps.specs.Shape.{MapShape}
@@ -31,7 +31,7 @@ use Rattle.verified_runs.proofs.Defined.{AllHold}
 use Rattle.verified_runs.proofs.Named.{width_is, rank_is, alike_tensor, wide_tensor}
 use Rattle.verified_runs.proofs.NamedPasses.{KeepsRules, named_passes}
 use Rattle.verified_runs.proofs.Runs.{comes_typed, place_passes}
-use Rattle.verified_runs.proofs.Asked.{inputs_have, output_has, is_read, input_read, output_read, Rules, reads_inside}
+use Rattle.verified_runs.proofs.Asked.{inputs_have, output_has, is_read, input_read, output_read, Rules, reads_inside, has_box}
 
 not_false : (b : Bool) → not b ≡ false → b ≡ true
 not_false true e = refl
@@ -74,6 +74,7 @@ module _ (t : Types) (c : Constants) (wanted : List Ty) (rs : List (ValueId × T
         inputs = inputs_have t c values k ins payload.ins many inputs.1;
         output = output_has (t outs.0) payload.out (values outs.0) output (k outs.0);
         inside = reads_inside t values k maps iterators ins outs rules;
+        box = has_box t values k maps iterators ins outs rules;
       }
 
 module _ (scope : Scope) (c : Constants) (wanted : List Ty) (rs : List (ValueId × Ty)) (s : State) (k : AreTyped (type_among scope) s) where

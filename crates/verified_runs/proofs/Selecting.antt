@@ -1,25 +1,20 @@
 -- Maps that select dimensions: their axes, and what the rules V5 to V8 ask of them.
-use Rattle.std.proofs.Common.{◌≡◌, ℕ, zero, suc, ◌+◌, ◌<◌, ◌≤◌, ◌==◌, ◌||◌, ◌&&◌, Bool, true, false, List, [], ◌∷◌, ◌++◌, map, length, replicate, Option, Some, None, refl, ap, sym, subst, ◌∙◌, arith, eq-eqb, eqb-true, ltb-true, lt-ltb, zero-add}
-use Rattle.std.specs.Prelude.{nat_lt, not, is_some, pos, slice_get, if◌then◌else◌}
-use Rattle.std.specs.List.{list_all, list_any, zip, filter_map, enumerate_from}
+use Rattle.std.proofs.Common.{◌≡◌, ℕ, zero, suc, ◌+◌, ◌<◌, ◌≤◌, ◌==◌, ◌||◌, ◌&&◌, Bool, true, false, List, [], ◌∷◌, ◌++◌, map, length, replicate, Option, Some, None, refl, ap, sym, subst, ◌∙◌, arith, eq-eqb, eqb-true, lt-ltb, zero-add}
+use Rattle.std.specs.Prelude.{is_some, pos, slice_get, if◌then◌else◌}
+use Rattle.std.specs.List.{list_all, zip, filter_map, enumerate_from}
 use Rattle.std.proofs.lemmas.Bool.{and_parts, and_from, ne_eqb, le-leb}
 use Rattle.mlir_base.specs.Numbers.{is_coefficient}
-use Rattle.std.proofs.lemmas.Bool.Decides.{eqb_tells}
 use Rattle.std.proofs.lemmas.List.{length-map}
 use Rattle.std.proofs.lemmas.Option.{slice_get_within, same_Some}
-use Rattle.affine_maps.specs.Shape.{MapShape}
-use Rattle.affine_maps.specs.Map.{expr_fits, map_fits, IsMap, dimension, dimensions, identity_of}
+use Rattle.affine_maps.specs.Map.{expr_fits, map_fits, dimension, dimensions, identity_of}
 use Rattle.affine_maps.specs.Permutation.{is_among, repeats, is_projected_permutation, dimensions_of}
-use Rattle.affine_maps.specs.declared.map.Expr.{Expr}
 use Rattle.affine_maps.proofs.Permuting.{from_dimensions}
 use Rattle.mlir_ir.specs.Count.{first}
 use Rattle.mlir_ir.specs.declared.tree.Extent.{Extent}
 use Rattle.mlir_ir.specs.declared.tree.Extent.TheVariants.{Fixed, Any}
-use Rattle.mlir_ir.specs.declared.tree.Iter.{Iter}
-use Rattle.mlir_ir.specs.declared.tree.Iter.TheVariants.{Parallel, Reduction}
+use Rattle.mlir_ir.specs.declared.tree.Iter.TheVariants.{Parallel}
 use Rattle.mlir_meaning.specs.Grids.{count_up, Each}
 use Rattle.mlir_meaning.specs.Points.{select_map}
-use Rattle.mlir_meaning.proofs.Grids.{each_more}
 use Rattle.mlir_verify.specs.Tensors.{is_fixed}
 use Rattle.mlir_verify.specs.Maps.{Axis, axis, extent_of, is_not_negative, is_iterator}
 use Rattle.mlir_verify.specs.Extents.{is_same_extent, has_extent, are_same_extents}
@@ -141,13 +136,14 @@ fixed_at (y ∷ ys) (suc d) x h e = fixed_at ys d x (and_parts (is_fixed y) _ h)
 pub same_fixed : (xs ys : List Extent) → are_same_extents xs ys ≡ true → list_all is_fixed xs ≡ true
 same_fixed xs ys h =
     let both = and_parts (length xs == length ys) _ h in each xs ys (eqb-true (length xs) (length ys) both.0) both.1 where
-  one : (x y : Extent) → is_same_extent x y ≡ true → is_fixed x ≡ true
-  one (Fixed m) y h = refl
-  one Any y h = absurd cc
-  each : (xs ys : List Extent) → length xs ≡ length ys → list_all (λ (z : Extent × Extent). is_same_extent z.0 z.1) (zip xs ys) ≡ true → list_all is_fixed xs ≡ true
-  each [] ys l h = refl
-  each (x ∷ xs) [] l h = absurd (omega arith)
-  each (x ∷ xs) (y ∷ ys) l h = let both = and_parts (is_same_extent x y) _ h in and_from _ _ (one x y both.0) (each xs ys (omega arith) both.1)
+      one : (x y : Extent) → is_same_extent x y ≡ true → is_fixed x ≡ true
+      one (Fixed m) y h = refl
+      one Any y h = absurd cc
+
+      each : (xs ys : List Extent) → length xs ≡ length ys → list_all (λ (z : Extent × Extent). is_same_extent z.0 z.1) (zip xs ys) ≡ true → list_all is_fixed xs ≡ true
+      each [] ys l h = refl
+      each (x ∷ xs) [] l h = absurd (omega arith)
+      each (x ∷ xs) (y ∷ ys) l h = let both = and_parts (is_same_extent x y) _ h in and_from _ _ (one x y both.0) (each xs ys (omega arith) both.1)
 
 -- the numbers of axes from a on, each with its extent
 each_numbered : (P : Axis → Type 0) (a : ℕ) (zs : List Extent) → ((d : ℕ) (z : Extent) → slice_get zs d ≡ Some z → P (a + d, z)) → Each P (zip (count_up a (length zs)) zs)

@@ -1,18 +1,21 @@
--- What an operation asks of the state in which it runs, so that it reads nothing outside its operands: elements of the widths that it
--- takes, one cell for each point, and each element that a map selects inside its operand (Linalg, "Structured operations").
-use Rattle.std.specs.Prelude.{◌≡◌, ℕ, ◌<◌, ◌^◌, List, [], ◌∷◌, ◌++◌, length, ⊤}
+-- What an operation asks of the state in which it runs, so that it reads nothing outside its operands: elements of
+-- the widths that it
+-- takes, one cell for each point, and each element that a map selects inside its operand (Linalg, "Structured
+-- operations").
+use Rattle.std.specs.Prelude.{◌≡◌, ℕ, ◌<◌, ◌^◌, true, is_some, slice_index, List, [], ◌∷◌, ◌++◌, length, ⊤}
 use Rattle.affine_maps.specs.Shape.{MapShape}
+use Rattle.affine_maps.specs.declared.map.Expr.{Expr}
 use Rattle.mlir_base.specs.declared.types.ElemTy.{ElemTy}
-use Rattle.mlir_base.specs.declared.types.ElemTy.TheVariants.{Int, Index}
+use Rattle.mlir_base.specs.declared.types.ElemTy.TheVariants.{Int}
 use Rattle.payload_ops.specs.Shape.{PayloadShape}
 use Rattle.mlir_ir.specs.declared.tree.OpKind.{OpKind, Generic, Fill, Matmul, BatchMatmul, Transpose, Broadcast}
 use Rattle.mlir_meaning.specs.Grids.{InBox}
-use Rattle.mlir_meaning.specs.Points.{map_point}
-use Rattle.mlir_meaning.specs.States.{State, width_of}
-use Rattle.mlir_meaning.specs.Structured.{Form, generic_box, rank_of, fill_form, matmul_form, batch_matmul_form, transpose_form, broadcast_form}
+use Rattle.mlir_meaning.specs.Points.{map_point, selects}
+use Rattle.mlir_meaning.specs.States.{State, width_of, grid_of}
+use Rattle.mlir_meaning.specs.Structured.{Form, operand_extent, generic_box, rank_of, fill_form, matmul_form, batch_matmul_form, transpose_form, broadcast_form}
 use Rattle.mlir_meaning.specs.Meaning.{values_in}
 use Rattle.mlir_meaning.specs.declared.values.Datum.{Datum}
-use Rattle.mlir_meaning.specs.declared.values.Datum.TheVariants.{Number, Bits, Cells}
+use Rattle.mlir_meaning.specs.declared.values.Datum.TheVariants.{Bits, Cells}
 use Rattle.verified_runs.specs.Typed.{AreCells}
 
 -- a scalar of the type, or a tensor of such elements with one cell for each point
@@ -38,11 +41,27 @@ ReadInside box [] [] = ⊤
 ReadInside box (m ∷ ms) (d ∷ ds) = ReadsInside box m d × ReadInside box ms ds
 ReadInside box _ _ = ⊥
 
+-- each axis that dimension d alone selects has this extent
+abbrev pub AxesHave : ℕ → ℕ → List Expr → List ℕ → Type 0
+AxesHave d n (e ∷ es) (x ∷ xs) = (selects d e ≡ true → x ≡ n) × AxesHave d n es xs
+AxesHave d n _ _ = ⊤
+
+abbrev pub AllHave : ℕ → ℕ → List MapShape → List Datum → Type 0
+AllHave d n (m ∷ ms) (x ∷ xs) = AxesHave d n m.results (grid_of x).extents × AllHave d n ms xs
+AllHave d n _ _ = ⊤
+
+-- the box of a generic is the sizes of its axes: each dimension is alone in some axis, and all such axes have its
+-- extent in the box
+pub record HasBox (maps : List MapShape) (dims : ℕ) (operands : List Datum) : Type 0 where
+  pub agrees : (d : ℕ) → d < dims → AllHave d (slice_index (generic_box maps dims operands) d) maps operands
+  pub selected : (d : ℕ) → d < dims → is_some (operand_extent d maps operands) ≡ true
+
 -- what a generic asks of its operands, the output last
 pub record AsksOperands (maps : List MapShape) (dims : ℕ) (payload : PayloadShape) (ins : List Datum) (out : Datum) : Type 0 where
   pub inputs : HaveElements payload.ins ins
   pub output : HasElements payload.out out
   pub inside : ReadInside (generic_box maps dims (ins ++ out ∷ [])) maps (ins ++ out ∷ [])
+  pub box : HasBox maps dims (ins ++ out ∷ [])
 
 abbrev pub AsksForm : Form → List Datum → Datum → Type 0
 AsksForm f ins out = AsksOperands f.maps (length f.iterators) f.payload ins out

@@ -41,8 +41,10 @@ abbrev pub placed : Option Edit → Op → List Op → List Op
 placed None o os = o ∷ os
 placed (Some e) o os = e.ops ++ reused_ops (moved (names_of o.results) e.values) os
 
--- a body with the step at the operation of this number. Where loops are built, an operation that isn't the target becomes the same one
--- with its own body edited, in the scope that has its arguments too: this is a pair of recursions then, over kinds and over rows.
+-- a body with the step at the operation of this number. Where loops are built, an operation that isn't the target
+-- becomes the same one
+-- with its own body edited, in the scope that has its arguments too: this is a pair of recursions then, over kinds
+-- and over rows.
 unfoldable pub edited_body : OpId → Step → Scope → List Op → List Op
 edited_body i step scope [] = []
 edited_body i step scope (o ∷ os) = if o.id.0 == i.0 then placed (step scope o) o os else o ∷ edited_body i step (scope ++ o.results) os

@@ -1,6 +1,6 @@
 ghost use Rattle.verified_runs.specs.Laws.{VerifiedPasses, ComesTyped, PlacePasses, EndsTyped};
 ghost use Rattle.verified_runs.specs.Laws.{ComesSafe};
-ghost use Rattle.verified_runs.specs.Laws.{ComesKept, AroundIsBelow};
+ghost use Rattle.verified_runs.specs.Laws.{ComesKept, AroundIsBelow, LaterAreOther, RenamedAfter};
 ghost use Rattle.verified_runs.specs.Laws.{NamedMeansGeneric, GenericPasses};
 ghost use Rattle.verified_runs.specs.Laws.{StepKeepsMeaning, ModuleKeepsMeaning, FormedPasses};
 
@@ -20,11 +20,13 @@ pub fn verified_functions_read_inside()
     ensures { ComesSafe }
 {}
 
-/// What nothing before or around a place defines holds there what it held before; and what stands
-/// around a place of a verified function reads only numbers of the function.
+/// What nothing before or around a place defines holds there what it held before. What stands around a
+/// place of a verified function reads only numbers of the function, and what is defined after it has others.
 pub fn places_keep_other_values()
     ensures kept { ComesKept }
     ensures alone { AroundIsBelow }
+    ensures other { LaterAreOther }
+    ensures renamed { RenamedAfter }
 {}
 
 /// A structured operation that passes means, in each typed state, the generic that it is by the types in
