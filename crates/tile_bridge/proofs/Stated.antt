@@ -2,11 +2,15 @@
 use Rattle.std.proofs.Common.{◌≡◌, ℕ, ◌<◌, List, ◌∷◌, length, ap, sym, subst, ◌∙◌, arith}
 use Rattle.mlir_verify.specs.Place.{type_among}
 use Rattle.verified_runs.specs.Forms.{kind_of}
-use Rattle.verified_runs.proofs.Runs.{comes_typed, place_passes}
+use Rattle.verified_runs.proofs.Runs.{comes_typed, place_passes, op_typed}
 use Rattle.region_laws.proofs.Stated.{typed_instance}
 use Rattle.tile_bridge.specs.Instances.{instance_of}
 use Rattle.tile_bridge.specs.Laws.{OperandsFitBox, RunsReachInstances, InstancesAreTyped, ParallelCutsOutput}
 use Rattle.tile_bridge.proofs.Bridge.{is_instance}
+use Rattle.mlir_verify.specs.Types.{is_typed}
+use Rattle.mlir_verify.specs.Maps.{breaks_maps, breaks_iterators}
+use Rattle.mlir_verify.specs.Extents.{breaks_extents}
+use Rattle.mlir_verify.specs.Windows.{breaks_windows}
 
 pub operands_fit : OperandsFitBox
 operands_fit scope wanted o g h e u typed =
