@@ -6,7 +6,8 @@ use Rattle.mlir_ir.specs.declared.tree.Op.{Op}
 use Rattle.mlir_ir.specs.declared.tree.OpKind.{OpKind, Constant}
 use Rattle.mlir_ir.specs.declared.tree.Ty.{Ty}
 use Rattle.mlir_ir.specs.declared.tree.Ty.TheVariants.{Scalar, Tensor}
-use Rattle.mlir_verify.specs.Names.{is_among, numbers}
+use Rattle.affine_maps.specs.Permutation.{is_among}
+use Rattle.mlir_verify.specs.Names.{numbers}
 use Rattle.mlir_verify.specs.Place.{Place}
 use Rattle.mlir_verify.specs.Tensors.{elements}
 

@@ -5,7 +5,7 @@ use mlir_ir::Module;
 use std::marker::Model;
 
 /// A module in which no rule of the verifier fails.
-#[derive(Debug, Drop)]
+#[derive(Drop)]
 pub struct Checked {
     module: Module,
 }

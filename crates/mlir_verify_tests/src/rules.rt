@@ -1,9 +1,9 @@
 //! One module, and changes to it that each break one rule.
 
-use crate::{Refused, Rule, verify};
 use affine_maps::{AffineMap, Expr};
 use mlir_base::{ElemTy, List, Memory, Name, Width};
 use mlir_ir::{Extent, Func, Iter, Module, Op, OpId, OpKind, Ty, ValueId};
+use mlir_verify::{Refused, Rule, verify};
 use payload_ops::{Arg, BinOp, Payload, PayloadStep, StepOp, payload};
 use std::alloc::Global;
 
