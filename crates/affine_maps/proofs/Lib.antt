@@ -4,3 +4,4 @@ pub mod Collecting
 pub mod Composing
 pub mod Permuting
 pub mod Products
+mod Worked

@@ -8,7 +8,7 @@ use std::marker::Model;
 /// A constant and a sum of coefficients times dimensions (Affine manual, "Affine Expressions").
 /// A map's expressions name each dimension at most once, in rising order, with a coefficient other
 /// than 0, and have no number beyond plus and minus 2^31.
-#[derive(Debug, Drop)]
+#[derive(Drop)]
 pub struct Expr {
     pub constant: i64,
     /// Numbers of dimensions, each with its coefficient.
@@ -17,7 +17,7 @@ pub struct Expr {
 
 /// A map from points of `dims` coordinates to points of one coordinate per result (Affine manual,
 /// "Affine Maps").
-#[derive(Debug, Drop)]
+#[derive(Drop)]
 pub struct AffineMap {
     dims: u32,
     results: List<Expr>,
@@ -94,22 +94,4 @@ fn terms_fit(dims: u32, terms: &[(u32, i64)]) -> bool
         low = term.0 as u64 + 1;
     }
     true
-}
-
-#[cfg(test)]
-mod tests {
-    use super::{AffineMap, Expr};
-    use mlir_base::{List, Memory};
-
-    #[test]
-    fn refuses_a_dimension_that_it_has_not(rt: HostRuntime) -> Result<(), Memory> {
-        for (dims, accepted) in [(1u32, false), (2, true)] {
-            let mut terms = List::new(rt.alloc());
-            terms.push((1u32, 1i64))?;
-            let mut results = List::new(rt.alloc());
-            results.push(Expr { constant: 0, terms })?;
-            assert_eq!(rt; AffineMap::new(dims, results).is_some(), accepted);
-        }
-        Ok(())
-    }
 }

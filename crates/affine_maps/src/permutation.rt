@@ -67,30 +67,3 @@ impl AffineMap {
         are_distinct_dimensions(results.as_slice())
     }
 }
-
-#[cfg(test)]
-mod tests {
-    use crate::map::{AffineMap, Expr};
-    use mlir_base::{List, Memory};
-
-    #[test]
-    fn tells_projected_permutations(rt: HostRuntime) -> Result<(), Memory> {
-        let rows = [
-            ([(2u32, 1i64, 0i64), (0, 1, 0)], true),
-            ([(1, 1, 0), (1, 1, 0)], false),
-            ([(0, 2, 0), (1, 1, 0)], false),
-            ([(0, 1, 0), (1, 1, 3)], false),
-        ];
-        for (parts, answer) in rows {
-            let mut results = List::new(rt.alloc());
-            for (dimension, coefficient, constant) in parts {
-                let mut terms = List::new(rt.alloc());
-                terms.push((dimension, coefficient))?;
-                results.push(Expr { constant, terms })?;
-            }
-            let map = AffineMap::new(3, results);
-            assert_eq!(rt; map.map(|m| m.is_projected_permutation()), Some(answer));
-        }
-        Ok(())
-    }
-}

@@ -74,37 +74,3 @@ impl AffineMap {
         write_values(self.dims(), results.as_slice(), point, into);
     }
 }
-
-#[cfg(test)]
-mod tests {
-    use crate::map::{AffineMap, Expr};
-    use mlir_base::{List, Memory};
-
-    /// (d0, d1) -> (7 + 3 * d0 - 2 * d1, d1)
-    #[test]
-    fn values_at_points(rt: HostRuntime) -> Result<(), Memory> {
-        let mut terms = List::new(rt.alloc());
-        terms.push((0u32, 3i64))?;
-        terms.push((1u32, -2i64))?;
-        let mut lone = List::new(rt.alloc());
-        lone.push((1u32, 1i64))?;
-        let mut results = List::new(rt.alloc());
-        results.push(Expr { constant: 7, terms })?;
-        results.push(Expr {
-            constant: 0,
-            terms: lone,
-        })?;
-        if let Some(map) = AffineMap::new(2, results) {
-            for (point, values) in [
-                ([0i64, 0], [7i64, 0]),
-                ([4, 9], [1, 9]),
-                ([-5, 1], [-10, 1]),
-            ] {
-                let mut into = [0i64; 2];
-                map.at(&point, &mut into);
-                assert_eq!(rt; into, values);
-            }
-        }
-        Ok(())
-    }
-}

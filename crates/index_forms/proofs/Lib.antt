@@ -8,3 +8,4 @@ pub mod Collected
 pub mod Known
 pub mod Gathered
 pub mod Sums
+mod Worked

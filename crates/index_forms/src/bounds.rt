@@ -8,7 +8,7 @@ use mlir_base::{List, Memory};
 use std::alloc::Global;
 
 /// Why the elimination gave up.
-#[derive(Clone, Copy, Debug)]
+#[derive(Clone, Copy)]
 enum Stop {
     Memory,
     Many,

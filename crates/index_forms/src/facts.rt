@@ -142,7 +142,7 @@ fn are_distinct(facts: &[Fact]) -> bool
 }
 
 /// What is known of each atom: the k-th fact is that of atom k. `Facts::new` makes it.
-#[derive(Debug, Drop)]
+#[derive(Drop)]
 pub struct Facts {
     facts: List<Fact>,
 }
@@ -190,30 +190,5 @@ impl Facts {
         ensures kept { AreKnown self.now }
     {
         self.facts.as_slice()
-    }
-}
-
-#[cfg(test)]
-mod tests {
-    use super::Facts;
-    use crate::form::{Fact, LinForm};
-    use mlir_base::{List, Memory};
-
-    #[test]
-    fn refuses_a_step_below_1_and_a_later_atom(rt: HostRuntime) -> Result<(), Memory> {
-        for (step, atom, accepted) in [(1i64, 0u32, true), (0, 0, false), (1, 1, false)] {
-            let mut terms = List::new(rt.alloc());
-            terms.push((atom, 1i64))?;
-            let lower = LinForm {
-                constant: 0,
-                terms: List::new(rt.alloc()),
-            };
-            let upper = LinForm { constant: 0, terms };
-            let mut facts = List::new(rt.alloc());
-            facts.push(Fact::Extent { most: 7 })?;
-            facts.push(Fact::Loop { lower, upper, step })?;
-            assert_eq!(rt; Facts::new(facts).is_some(), accepted);
-        }
-        Ok(())
     }
 }

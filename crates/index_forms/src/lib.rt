@@ -22,8 +22,6 @@ mod facts;
 mod form;
 mod normal;
 mod plain;
-#[cfg(test)]
-mod tests;
 
 pub use answers::{lower, upper};
 pub use facts::Facts;

@@ -1,5 +1,5 @@
 /// Which limit was passed.
-#[derive(Clone, Copy, Debug, PartialEq, Eq)]
+#[derive(Clone, Copy, PartialEq, Eq)]
 pub enum Which {
     Bytes,
     Operations,

@@ -6,7 +6,7 @@ use std::marker::Model;
 
 /// A `Vec` that contracts see as the list of its elements. It keeps the allocator that it was made
 /// with.
-#[derive(Debug, Drop)]
+#[derive(Drop)]
 pub struct List<T> {
     items: Vec<T>,
 }

@@ -6,7 +6,7 @@ use std::marker::Model;
 
 /// A text that contracts see as the list of its bytes. It keeps the allocator that it was made
 /// with.
-#[derive(Debug, Drop)]
+#[derive(Drop)]
 pub struct Name {
     text: String,
 }

@@ -3,7 +3,7 @@ ghost use Rattle.std.specs.Prelude.{◌≡◌, ◌≤◌, ◌<◌, ℕ, IsSome, 
 use std::marker::Model;
 
 /// The number of bits of an integer type, from 1 to 64.
-#[derive(Clone, Copy, Debug, PartialEq, Eq)]
+#[derive(Clone, Copy, PartialEq, Eq)]
 pub struct Width(u8);
 
 impl Model for Width {
@@ -39,7 +39,7 @@ impl Width {
 
 /// The type of one element: a signless integer of a width, or `index`, which has 64 bits
 /// (Builtin manual, "IntegerType" and "IndexType").
-#[derive(Clone, Copy, Debug, PartialEq, Eq)]
+#[derive(Clone, Copy, PartialEq, Eq)]
 pub enum ElemTy {
     Int(Width),
     Index,

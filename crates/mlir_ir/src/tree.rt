@@ -4,22 +4,22 @@ use payload_ops::{Combiner, Payload, StepOp};
 use std::marker::Model;
 
 /// The number of a value of a function: a parameter, a result, or what a loop gives its body.
-#[derive(Clone, Copy, Debug, PartialEq, Eq)]
+#[derive(Clone, Copy, PartialEq, Eq)]
 pub struct ValueId(pub u32);
 
 /// The number of an operation.
-#[derive(Clone, Copy, Debug, PartialEq, Eq)]
+#[derive(Clone, Copy, PartialEq, Eq)]
 pub struct OpId(pub u32);
 
 /// The length of one axis of a tensor; `Any` is MLIR's `?`.
-#[derive(Clone, Copy, Debug, PartialEq, Eq)]
+#[derive(Clone, Copy, PartialEq, Eq)]
 pub enum Extent {
     Fixed(u32),
     Any,
 }
 
 /// The type of a value (Builtin manual, "RankedTensorType" and "VectorType").
-#[derive(Debug, Drop)]
+#[derive(Drop)]
 pub enum Ty {
     Scalar(ElemTy),
     Tensor { extents: List<Extent>, elem: Width },
@@ -27,14 +27,14 @@ pub enum Ty {
 }
 
 /// An entry of a list of offsets, sizes or bounds: a literal, or an `index` value.
-#[derive(Clone, Copy, Debug, PartialEq, Eq)]
+#[derive(Clone, Copy, PartialEq, Eq)]
 pub enum Idx {
     Literal(i64),
     Value(ValueId),
 }
 
 /// The kind of a dimension of a `linalg.generic` (Linalg manual, "iterator_types").
-#[derive(Clone, Copy, Debug, PartialEq, Eq)]
+#[derive(Clone, Copy, PartialEq, Eq)]
 pub enum Iter {
     Parallel,
     Reduction,
@@ -43,7 +43,7 @@ pub enum Iter {
 /// An operation, with its results and their types. The tree order of operations is the order in
 /// which they begin in the text: an operation comes before those inside it.
 #[cycle(ir)]
-#[derive(Debug, Drop)]
+#[derive(Drop)]
 pub struct Op {
     pub id: OpId,
     pub results: List<(ValueId, Ty)>,
@@ -58,7 +58,7 @@ pub struct Op {
 /// are the outer `index` values that a payload uses. The step of an `Elementwise` names its
 /// arguments `Input(0)`, `Input(1)` and so on. `Yield` ends a body, and `Return` a function.
 #[cycle(ir)]
-#[derive(Debug, Drop)]
+#[derive(Drop)]
 pub enum OpKind {
     Constant {
         value: List<u64>,
@@ -193,7 +193,7 @@ pub enum OpKind {
 }
 
 /// A function. Its body is not empty.
-#[derive(Debug, Drop)]
+#[derive(Drop)]
 pub struct Func {
     pub name: Name,
     pub params: List<(ValueId, Ty)>,
@@ -217,14 +217,14 @@ impl Model for Func {
 }
 
 /// The functions of a module, in order.
-#[derive(Debug, Drop)]
+#[derive(Drop)]
 pub struct Module {
     pub funcs: List<Func>,
 }
 
 /// A tensor with its cells in row-major order: one for each index of its box, each a value of the
 /// element's width.
-#[derive(Debug, Drop)]
+#[derive(Drop)]
 pub struct Tensor {
     pub extents: List<u32>,
     pub elem: Width,

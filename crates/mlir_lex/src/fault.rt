@@ -8,7 +8,7 @@ use mlir_base::{Memory, Which};
 use text_format::{Reason, Stopped};
 
 /// A fault of a tree's names, types or numbers, with the place of its token.
-#[derive(Clone, Copy, Debug)]
+#[derive(Clone, Copy)]
 pub enum Fault {
     /// A list has more or fewer entries than its partner: at the surplus comma or the early closer.
     Syntax(u32),
@@ -59,7 +59,7 @@ impl Fault {
 }
 
 /// Why a tree isn't resolved.
-#[derive(Clone, Copy, Debug)]
+#[derive(Clone, Copy)]
 pub enum Refused {
     At(Fault),
     Memory,

@@ -7,7 +7,7 @@ use mlir_base::{Memory, Which};
 use text_format::LexError;
 
 /// Why a text is refused. A place is the number of bytes before it; the end of the text is its length.
-#[derive(Clone, Copy, Debug, PartialEq, Eq)]
+#[derive(Clone, Copy, PartialEq, Eq)]
 pub enum ReadError {
     /// A byte outside a comment that begins no token, or can't stand in a quoted text.
     Byte(u32),

@@ -27,7 +27,7 @@ pub enum Fault {
 }
 
 /// Why there is no output. Its `Display` is the line on `err`, without the line feed.
-#[derive(Clone, Copy, Debug, PartialEq, Eq, Drop)]
+#[derive(Clone, Copy, PartialEq, Eq, Drop)]
 pub enum Refusal {
     /// The words are no command.
     Words,
@@ -70,7 +70,7 @@ pub enum FileError {
 }
 
 /// Why a text isn't processed.
-#[derive(Clone, Copy, Debug, PartialEq, Eq, Drop)]
+#[derive(Clone, Copy, PartialEq, Eq, Drop)]
 pub enum TextError {
     /// As [`Refusal::Limit`].
     Limit {

@@ -10,7 +10,7 @@ use Rattle.std.proofs.lemmas.Str.Parse.{digit_from_value}
 use Rattle.mlir_base.specs.declared.types.ElemTy.TheVariants.{Int}
 use Rattle.payload_ops.specs.Bits.{reduce, signed_of}
 use Rattle.mlir_base.specs.Types.{is_value}
-use Rattle.payload_ops.proofs.Joined.{reduce-signed_of}
+use Rattle.payload_ops.proofs.Residues.{reduce-signed_of}
 use Rattle.mlir_ir.specs.declared.tree.Extent.{Extent}
 use Rattle.mlir_ir.specs.declared.tree.Extent.TheVariants.{Fixed as FixedExtent, Any}
 use Rattle.text_format.specs.declared.front.Kind.TheVariants as tokens

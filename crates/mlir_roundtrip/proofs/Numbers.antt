@@ -11,7 +11,7 @@ use Rattle.payload_ops.specs.Bits.{reduce, signed_of}
 use Rattle.mlir_base.specs.Types.{bits_of, is_elem, is_value}
 use Rattle.payload_ops.specs.Payload.{has_type}
 use Rattle.payload_ops.proofs.Words.{signed-low, signed-high, pow-double}
-use Rattle.payload_ops.proofs.Joined.{reduce-signed_of}
+use Rattle.payload_ops.proofs.Residues.{reduce-signed_of}
 use Rattle.text_format.specs.Types.{element_of}
 use Rattle.mlir_scope.specs.Literals.{spelled_from, digits_value, is_negative, signed_by, most_of, literal_of, is_near, is_written}
 use Rattle.mlir_print.specs.Types.{elem_text}

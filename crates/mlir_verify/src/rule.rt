@@ -20,7 +20,7 @@ pub enum Rule {
 }
 
 /// Why a module isn't verified.
-#[derive(Clone, Copy, Debug, PartialEq, Eq)]
+#[derive(Clone, Copy, PartialEq, Eq)]
 pub enum Refused {
     /// The first operation, in tree order, at which a rule fails, with the lowest such rule there.
     Rule { rule: Rule, op: OpId },

@@ -1,8 +1,6 @@
 pub mod Bits
 pub mod Combine
 pub mod Evaluation
-pub mod Known
-pub mod Laws
 pub mod Payload
 pub mod Shape
 pub mod Values

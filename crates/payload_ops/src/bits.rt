@@ -60,6 +60,3 @@ pub fn wrap_signed(w: Width, n: i64) -> u64
 {
     low_bits(w, n.cast_unsigned())
 }
-
-#[cfg(test)]
-mod tests;

@@ -161,6 +161,3 @@ pub fn eval(
     }
     Ok(arguments.value_of(p.yielded(), &scratch[..p.steps().len()]))
 }
-
-#[cfg(test)]
-mod tests;

@@ -1,5 +1,5 @@
 /// The operations of the `arith` dialect on two integers of one type (Arith manual).
-#[derive(Clone, Copy, Debug, PartialEq, Eq)]
+#[derive(Clone, Copy, PartialEq, Eq)]
 pub enum BinOp {
     Addi,
     Subi,
@@ -21,7 +21,7 @@ pub enum BinOp {
 }
 
 /// The comparisons of `arith.cmpi`.
-#[derive(Clone, Copy, Debug, PartialEq, Eq)]
+#[derive(Clone, Copy, PartialEq, Eq)]
 pub enum Predicate {
     Eq,
     Ne,
@@ -36,7 +36,7 @@ pub enum Predicate {
 }
 
 /// How a reduction joins two values.
-#[derive(Clone, Copy, Debug, PartialEq, Eq)]
+#[derive(Clone, Copy, PartialEq, Eq)]
 pub enum Combiner {
     Add,
     Mul,
@@ -50,5 +50,5 @@ pub enum Combiner {
 }
 
 /// The trap of a division by 0, or of the least value by -1.
-#[derive(Clone, Copy, Debug, PartialEq, Eq)]
+#[derive(Clone, Copy, PartialEq, Eq)]
 pub struct Division;

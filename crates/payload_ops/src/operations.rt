@@ -115,6 +115,3 @@ fn shift_sign_right(w: Width, a: u64, b: u64) -> u64
         all_ones(w)
     }
 }
-
-#[cfg(test)]
-mod tests;

@@ -9,7 +9,7 @@ pub mod parts;
 
 /// What a `linalg.generic` computes at one point, from one element of each input and of its output
 /// (Linalg manual, "linalg.generic"). `payload` makes one, and so its steps fit.
-#[derive(Debug, Drop)]
+#[derive(Drop)]
 pub struct Payload {
     ins: List<ElemTy>,
     out: ElemTy,

@@ -3,7 +3,7 @@ use mlir_base::{ElemTy, List};
 
 /// What an argument of a step names: an input by its number, the output's element before the
 /// operation, or an earlier step by its number.
-#[derive(Clone, Copy, Debug, PartialEq, Eq)]
+#[derive(Clone, Copy, PartialEq, Eq)]
 pub enum Arg {
     Input(u32),
     Out,
@@ -12,7 +12,7 @@ pub enum Arg {
 
 /// What a step computes. `Index` is the coordinate of that number (`linalg.index`), `Captured` the
 /// outer value of that number, and `Linear` a constant and the sum of coefficients times arguments.
-#[derive(Debug, Drop)]
+#[derive(Drop)]
 pub enum StepOp {
     Const(u64),
     Index(u32),
@@ -32,7 +32,7 @@ pub enum StepOp {
 
 /// One step of a payload, and the type of its value. A value of a type of N bits is a `u64` below
 /// 2^N.
-#[derive(Debug, Drop)]
+#[derive(Drop)]
 pub struct PayloadStep {
     pub ty: ElemTy,
     pub op: StepOp,

@@ -7,21 +7,21 @@ use mlir_base::{List, Name, Width};
 pub struct HandleId(pub u32);
 
 /// A named sequence: steps over handles, of which the root names the module (Transform dialect, "transform.named_sequence").
-#[derive(Debug, Drop)]
+#[derive(Drop)]
 pub struct Script {
     pub root: HandleId,
     pub steps: List<Step>,
 }
 
 /// A step, and the handles that it defines.
-#[derive(Debug, Drop)]
+#[derive(Drop)]
 pub struct Step {
     pub results: List<HandleId>,
     pub kind: StepKind,
 }
 
 /// How a structured operation is padded: a value for each operand, and a multiple for each named dimension.
-#[derive(Debug, Drop)]
+#[derive(Drop)]
 pub struct PadArgs {
     pub values: List<(i128, Width)>,
     pub dims: List<u32>,
@@ -30,7 +30,7 @@ pub struct PadArgs {
 
 /// The steps of a script (Transform dialect). Sizes, orders, dimensions and multiples have one entry for each dimension of
 /// the target, or for each that is named.
-#[derive(Debug, Drop)]
+#[derive(Drop)]
 pub enum StepKind {
     /// `transform.structured.match`
     Match {

@@ -20,7 +20,7 @@ pub enum Extent {
 }
 
 /// A tensor's type of any rank, with fixed extents.
-#[derive(Debug, Drop)]
+#[derive(Drop)]
 pub struct RankedShape {
     pub extents: List<Extent>,
     pub width: Width,

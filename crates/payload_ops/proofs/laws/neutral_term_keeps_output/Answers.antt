@@ -1,5 +1,0 @@
-use Rattle.payload_ops.proofs.KnownValues.{keeps_output}
-use Rattle.payload_ops.proofs.laws.neutral_term_keeps_output.Goals as goal
-
-pub returns : goal.returns
-returns c = keeps_output

@@ -1,5 +1,0 @@
-use Rattle.payload_ops.proofs.Traps.{never_traps}
-use Rattle.payload_ops.proofs.laws.no_values_trap.Goals as goal
-
-pub returns : goal.returns
-returns c = never_traps
