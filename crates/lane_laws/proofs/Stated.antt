@@ -1,7 +1,7 @@
 -- The laws of lanes as they are stated.
 use Rattle.std.proofs.Common.{Some, ap, ◌∙◌}
 use Rattle.mlir_meaning.specs.States.{element}
-use Rattle.payload_ops.proofs.Traps.{never_traps}
+use Rattle.payload_laws.proofs.Traps.{never_traps}
 use Rattle.lane_laws.specs.Laws.{LanesAreGeneric, ReducedLanesAreGeneric, MasksChoose}
 use Rattle.lane_laws.specs.Lanes.{lane_vectors}
 use Rattle.lane_laws.proofs.LaneSteps.{LaneResult, lanes_give}
