@@ -13,7 +13,7 @@ use Rattle.affine_maps.specs.Value.{value_at}
 use Rattle.affine_maps.proofs.Permuting.{to_dimensions}
 use Rattle.affine_maps.proofs.Listed.{fitting_below}
 use Rattle.mlir_base.specs.Numbers.{is_in_range}
-use Rattle.payload_ops.specs.Combine.{combiner_of}
+use Rattle.payload_laws.specs.Combiners.{combiner_of}
 use Rattle.payload_ops.specs.Payload.{payload_fits, IsPayload}
 use Rattle.mlir_ir.specs.declared.tree.Iter.{Iter}
 use Rattle.mlir_ir.specs.declared.tree.Op.{Op}

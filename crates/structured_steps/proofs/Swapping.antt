@@ -2,15 +2,16 @@
 use Rattle.std.proofs.Common.{◌≡◌, ℕ, true, List, map, Option, Some, None, option_map, option_and_then, fold, filter, refl, ap, sym, ◌∙◌}
 use Rattle.std.specs.Prelude.{is_some}
 use Rattle.affine_maps.specs.Shape.{MapShape}
-use Rattle.payload_ops.specs.Combine.{joined, combining, combiner_of, value_after}
+use Rattle.payload_ops.specs.Combine.{joined}
+use Rattle.payload_laws.specs.Combiners.{combining, combiner_of, value_after}
 use Rattle.mlir_base.specs.Types.{bits_of}
 use Rattle.payload_ops.specs.Payload.{IsPayload}
 use Rattle.payload_ops.specs.Shape.{PayloadShape}
 use Rattle.payload_ops.specs.Values.{Given}
 use Rattle.payload_ops.specs.declared.kinds.Combiner.{Combiner}
 use Rattle.payload_ops.specs.declared.step.Arg.{Arg}
-use Rattle.payload_ops.proofs.Combiners.{joins_term, term_apart}
-use Rattle.payload_ops.proofs.Joined.{joined_assoc, joined_comm}
+use Rattle.payload_laws.proofs.Combiners.{joins_term, term_apart}
+use Rattle.payload_laws.proofs.Joined.{joined_assoc, joined_comm}
 use Rattle.mlir_meaning.specs.declared.values.Datum.{Datum}
 use Rattle.mlir_meaning.specs.Structured.{elements, generic_step}
 use Rattle.mlir_meaning.specs.Grids.{points}
