@@ -24,8 +24,13 @@ module _ (c : ℕ) (f : ℕ → ℕ) (p : PayloadShape) where
   hoisted_to (Step i) = Step (number_at (numbers own_index f (length fronts) p.steps) i)
 
   abbrev pub hoisted : PayloadShape
-  hoisted = record { ins = p.ins; out = p.out; steps = fronts
-      ++ blocks own_index hoisted_to (length fronts) p.steps; yielded = hoisted_to p.yielded }
+  hoisted = record {
+    ins = p.ins;
+    out = p.out;
+    steps = fronts
+        ++ blocks own_index hoisted_to (length fronts) p.steps;
+    yielded = hoisted_to p.yielded;
+  }
 
 -- AT THE FIRST USE: from a payload that has a step for each of c captured values in front. `seen` are the captured
 -- values that have a step so far.

@@ -23,8 +23,14 @@ fused_maps k ds m producer consumer = spliced k (map (λ i. composed i (pulled d
 -- how a consumer's operand k with the map m is the producer's result; both have so many captured values
 abbrev pub joint : ℕ → List ℕ → MapShape → ℕ → (ℕ → ℕ) → (ℕ → ℕ) → Joint
 joint k ds m captured of_producer of_consumer =
-    record { input = k; exprs =
-    (pulled ds m).results; captured = captured; of_producer = of_producer; of_consumer = of_consumer }
+    record {
+      input = k;
+      exprs =
+          (pulled ds m).results;
+      captured = captured;
+      of_producer = of_producer;
+      of_consumer = of_consumer;
+    }
 
 abbrev pub fused : Instance → Instance → ℕ → MapShape → List ℕ → (ℕ → ℕ) → (ℕ → ℕ) → Instance
 fused p c k m captured of_producer of_consumer = record {

@@ -5,7 +5,8 @@ use Rattle.std.specs.Option.{option_map_or}
 use Rattle.std.proofs.lemmas.List.{length-map, get_or_append_left, take-append-drop}
 use Rattle.std.proofs.lemmas.Option.{same_Some}
 use Rattle.affine_maps.specs.Shape.{MapShape}
-use Rattle.payload_ops.specs.Combine.{joined, neutral_of, combining, value_after}
+use Rattle.payload_ops.specs.Combine.{joined}
+use Rattle.payload_laws.specs.Combiners.{neutral_of, combining, value_after}
 use Rattle.payload_ops.specs.Payload.{IsPayload}
 use Rattle.mlir_base.specs.Types.{bits_of}
 use Rattle.payload_ops.specs.Shape.{PayloadShape}
@@ -14,9 +15,9 @@ use Rattle.payload_ops.specs.declared.kinds.Combiner.{Combiner}
 use Rattle.payload_ops.specs.declared.step.Arg.{Arg}
 use Rattle.payload_ops.specs.declared.step.Arg.TheVariants.{Input, Out, Step}
 use Rattle.payload_ops.specs.declared.step.PayloadStep.{PayloadStep}
-use Rattle.payload_ops.proofs.Combiners.{joins_term, term_apart}
-use Rattle.payload_ops.proofs.Fitted.{steps_values-append, values_begin}
-use Rattle.payload_ops.proofs.Joined.{joined_neutral, joined_below}
+use Rattle.payload_laws.proofs.Combiners.{joins_term, term_apart}
+use Rattle.payload_laws.proofs.Fitted.{steps_values-append, values_begin}
+use Rattle.payload_laws.proofs.Joined.{joined_neutral, joined_below}
 use Rattle.mlir_meaning.specs.declared.values.Grid.{Grid}
 use Rattle.mlir_meaning.specs.declared.values.Datum.{Datum}
 use Rattle.mlir_meaning.specs.declared.values.Datum.TheVariants.{Number, Bits, Cells}
@@ -202,7 +203,6 @@ module _ (box vs : List ℕ) (grows : Grows box vs) (os : List LaneInput) (ds : 
     fold_some : (f : ℕ → List ℕ → ℕ) (ps : List (List ℕ)) (a : ℕ) → fold_points (λ a p. Some (f a p)) ps a ≡ Some (fold f a ps)
     fold_some f [] a = refl
     fold_some f (p ∷ ps) a = fold_some f ps (f a p)
-
 
     -- the parallel dimensions are the output's
     module _ (once : IsOnce par) (among : AreAmong par ds) (among' : AreAmong ds par) (below : Each (λ d. d < length box) par) where

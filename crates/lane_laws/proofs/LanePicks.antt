@@ -69,7 +69,6 @@ count_place (suc n) a r l m =
     next (suc a) zero l n = absurd (omega arith)
     next (suc a) (suc r) l n = omega (arith, next a r (omega arith) (λ e. n (ap suc e)))
 
-
 pub all_once : (n : ℕ) → IsOnce (count_up 0 n)
 all_once n k l =
     let m : k < n = omega (arith, l, count_length 0 n) in
@@ -137,7 +136,6 @@ module _ (box vs : List ℕ) (grows : Grows box vs) (dims ds : List ℕ) (once :
 
   pub lane_back : (e : List ℕ) → InBox (picks ds box) e → lane_picks dims ds (lane e) ≡ e
   lane_back e b = picks_back ds dims e once among (box_length (picks ds box) e b ∙ length-map ds (λ d. get_or box d 0))
-
 
   pub lane_in_box : (e : List ℕ) → InBox (picks ds box) e → InBox (picks dims box) (lane e)
   lane_in_box e b = lane_picks_in ds dims box e among' b

@@ -3,7 +3,7 @@ use Rattle.std.proofs.Common.{◌≡◌, ℕ, zero, suc, ◌+◌, ◌<◌, ◌�
 use Rattle.std.specs.Prelude.{option_map, if◌then◌else◌, slice_get}
 use Rattle.std.proofs.lemmas.Bool.{false≢true, and_parts}
 use Rattle.std.proofs.lemmas.Option.{none-some, same_Some}
-use Rattle.payload_ops.specs.Combine.{combining, avoids, op_avoids, steps_avoid, other_than_out}
+use Rattle.payload_laws.specs.Combiners.{combining, avoids, op_avoids, steps_avoid, other_than_out}
 use Rattle.payload_ops.specs.Shape.{PayloadShape}
 use Rattle.payload_ops.specs.Values.{bit_of, op_value}
 use Rattle.payload_ops.specs.declared.kinds.Combiner.{Combiner}
@@ -12,7 +12,7 @@ use Rattle.payload_ops.specs.declared.step.Arg.TheVariants.{Input, Out, Step}
 use Rattle.payload_ops.specs.declared.step.PayloadStep.{PayloadStep}
 use Rattle.payload_ops.specs.declared.step.StepOp.{StepOp}
 use Rattle.payload_ops.specs.declared.step.StepOp.TheVariants.{Const, Index, Captured, Linear, Binary, Compare, Select, SignExtend, ZeroExtend, Truncate, IndexCast}
-use Rattle.payload_ops.proofs.Combiners.{Joins, joins_of}
+use Rattle.payload_laws.proofs.Combiners.{Joins, joins_of}
 use Rattle.mlir_meaning.specs.declared.values.Grid.{Grid}
 use Rattle.mlir_meaning.specs.declared.values.Datum.TheVariants.{Cells}
 use Rattle.mlir_meaning.specs.Grids.{at, tabulate, is_inside, InBox}

@@ -4,7 +4,7 @@ use Rattle.std.specs.Prelude.{option_map, option_and_then, if◌then◌else◌, 
 use Rattle.std.specs.Option.{option_map_or}
 use Rattle.std.proofs.lemmas.List.{map-append, length-append}
 use Rattle.payload_ops.specs.Bits.{reduce, signed_of, binary_of, compares}
-use Rattle.payload_ops.specs.Combine.{value_after}
+use Rattle.payload_laws.specs.Combiners.{value_after}
 use Rattle.mlir_base.specs.Types.{bits_of}
 use Rattle.payload_ops.specs.Shape.{PayloadShape}
 use Rattle.payload_ops.specs.Values.{Given, arg_value, arg_bits, bit_of, op_value, steps_values, payload_value}

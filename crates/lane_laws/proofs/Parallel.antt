@@ -14,7 +14,6 @@ abbrev IsRising : List ℕ → Type 0
 IsRising [] = ⊤
 IsRising (x ∷ xs) = Each (λ y. x < y) xs × IsRising xs
 
-
 rising_place : (a : ℕ) (xs : List ℕ) → IsRising xs → (k : ℕ) → k < length xs → place_of (get_or xs k 0) a xs ≡ a + k
 rising_place a [] r k l = absurd (omega arith)
 rising_place a (x ∷ xs) r zero l = (λ j. if eq-eqb x x refl j then a else place_of x (a + 1) xs) ∙ omega arith

@@ -1,7 +1,7 @@
 -- The laws of lanes as they are stated.
 use Rattle.std.proofs.Common.{Some, ap, ◌∙◌}
 use Rattle.mlir_meaning.specs.States.{element}
-use Rattle.payload_ops.proofs.Traps.{never_traps}
+use Rattle.payload_laws.proofs.Traps.{never_traps}
 use Rattle.lane_laws.specs.Laws.{LanesAreGeneric, ReducedLanesAreGeneric, MasksChoose}
 use Rattle.lane_laws.specs.Lanes.{lane_vectors}
 use Rattle.lane_laws.proofs.LaneSteps.{LaneResult, lanes_give}
@@ -15,7 +15,7 @@ lanes g N is o vector reads_out lane_payload are among =
       r.all,
       r.runs,
       λ v w e wide back.
-          lanes_mean g.box g.lanes is.grows g.inputs g.ds g.width g.out g.captured g.payload is.typed N is.inputs o vector reads_out among lane_payload v w wide
+          lanes_mean g.box g.lanes is.grows g.inputs g.ds g.width g.out is.selects g.captured g.payload is.typed N is.inputs o vector reads_out among lane_payload v w wide
           (λ p b. r.gives p b ∙ ap (λ d. Some (element d p)) e) back,
     )
 
@@ -28,9 +28,9 @@ reduced g N is lane_payload are reds k t found par small =
       r.all,
       r.runs,
       λ T S A w e chosen acc back.
-          reduction_means g.box g.lanes is.grows g.inputs g.ds g.width g.out g.captured g.payload is.typed N is.inputs reds k t is.cannot.is found par.once par.among par.among_back
+          reduction_means g.box g.lanes is.grows g.inputs g.ds g.width g.out is.selects g.captured g.payload is.typed N is.inputs reds k t is.cannot.is found par.once par.among par.among_back
           par.below T S A w chosen
-          (terms_are g.box g.lanes is.grows g.inputs g.ds g.width g.out g.captured g.payload is.typed N is.inputs j.y t lane_payload j.later T
+          (terms_are g.box g.lanes is.grows g.inputs g.ds g.width g.out is.selects g.captured g.payload is.typed N is.inputs j.y t lane_payload j.later T
           (λ p b. r.gives p b ∙ ap (λ d. Some (element d p)) e)) acc small back,
     )
 

@@ -1,7 +1,7 @@
 -- The laws. Each is the contract of a function in `src/laws.rt`.
 use Rattle.std.specs.Prelude.{◌≡◌, ℕ, ◌<◌, ◌^◌, not, Bool, true, false, List, [], ◌∷◌, length, take, Some}
 use Rattle.mlir_base.specs.Types.{bits_of}
-use Rattle.payload_ops.specs.Combine.{combining, neutral_of}
+use Rattle.payload_laws.specs.Combiners.{combining, neutral_of}
 use Rattle.payload_ops.specs.declared.kinds.Combiner.{Combiner}
 use Rattle.payload_ops.specs.declared.step.Arg.{Arg}
 use Rattle.payload_ops.specs.declared.step.Arg.TheVariants.{Input}

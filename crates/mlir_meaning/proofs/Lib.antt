@@ -16,3 +16,5 @@ pub mod Trees
 pub mod States
 pub mod OneState
 pub mod Removed
+pub mod Held
+pub mod worked

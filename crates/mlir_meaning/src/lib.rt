@@ -9,7 +9,8 @@
 //! The definitions stand in `specs/`: `Grids` and `Points` (boxes, cells in row-major order, maps), `States`
 //! (what values hold, and how a run goes on), `Structured`, `Moves`, `Vectors` and `Loops` (the families of
 //! kinds), `Meaning` (an operation, a body, a function), `Contexts` (a place in a body, and the states that
-//! come to it), `Renaming`, `Names` and `Replacement` (what a tree reads and defines), and `Laws`.
+//! come to it), `Renaming`, `Names` and `Replacement` (what a tree reads and defines), and `Laws`. For each
+//! kind of operation `proofs/worked` works out an ordinary value and one at its edge.
 #![tactic(auto)]
 
 mod answer;

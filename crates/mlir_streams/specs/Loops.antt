@@ -1,5 +1,6 @@
 -- What the loops over a shelf and over a sink read and write, and why they refuse.
-use Rattle.std.specs.Prelude.{◌≡◌, ◌<◌, ◌≤◌, ℕ, List, ◌++◌, take, length, ⊤, Some, None, Ok, Err, Result, Option, Vec}
+use Rattle.std.specs.Prelude.{◌≡◌, ◌<◌, ◌≤◌, ℕ, List, ◌++◌, take, length, ⊤}
+use Rattle.std.specs.Prelude.{Some, None, Ok, Err, Result, Option, Vec}
 use Rattle.std.specs.declared.alloc.Global.{Global}
 use Rattle.std.specs.Io.KnownBytes.{Appends, Consumes}
 use Rattle.mlir_streams.specs.Causes.{Rose}
@@ -19,7 +20,8 @@ ReadsWhole limit (Some left) (Err fetch.Memory) = ⊤
 
 -- a text grew by this many bytes, which were taken off the front of what was left unread
 abbrev pub AddsConsumed : ℕ → List ℕ → List ℕ → Option (List ℕ) → Option (List ℕ) → Type 0
-AddsConsumed taken before now old new = (bytes : List ℕ) × (now ≡ before ++ bytes) × (length bytes ≡ taken) × Consumes old new bytes
+AddsConsumed taken before now old new =
+    (bytes : List ℕ) × (now ≡ before ++ bytes) × (length bytes ≡ taken) × Consumes old new bytes
 
 -- at most this many bytes were taken off the front of what was left unread
 abbrev pub ConsumesAtMost : ℕ → Option (List ℕ) → Option (List ℕ) → Type 0
@@ -37,7 +39,8 @@ abbrev pub AppendsPart : Option (List ℕ) → Option (List ℕ) → List ℕ �
 AppendsPart old new bytes = (n : ℕ) × Appends old new (take n bytes)
 
 -- all bytes were written, or a prefix of them where the sink refused
-abbrev pub AppendsOrPart : {T E : Type 0} → Option (List ℕ) → Option (List ℕ) → List ℕ → Result T E → Type 0
+abbrev pub AppendsOrPart : {T E : Type 0} → Option (List ℕ) → Option (List ℕ) → List ℕ → Result T E
+    → Type 0
 AppendsOrPart old new bytes (Ok _) = Appends old new bytes
 AppendsOrPart old new bytes (Err _) = AppendsPart old new bytes
 

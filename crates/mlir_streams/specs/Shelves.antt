@@ -11,7 +11,8 @@ Files = List ℕ → Option (List ℕ)
 
 -- Where the shelf tells its files, opening one leaves the whole of it unread, and it is absent exactly where no file
 -- has the name.
-abbrev pub OpenLeaves : {T : Type 0} → Option Files → List ℕ → Option (List ℕ) → Result T OpenError → Type 0
+abbrev pub OpenLeaves : {T : Type 0} → Option Files → List ℕ → Option (List ℕ) → Result T OpenError
+    → Type 0
 OpenLeaves None name left result = ⊤
 OpenLeaves (Some files) name left (Ok _) = IsSome (files name) × (left ≡ files name)
 OpenLeaves (Some files) name left (Err Absent) = files name ≡ None

@@ -26,6 +26,3 @@ pub use reading::{FetchError, read_whole};
 pub use shelf::{Failed, OpenError, Shelf};
 pub use sink::{Sink, WriteError};
 pub use writing::write_whole;
-
-#[cfg(test)]
-mod tests;

@@ -1,6 +1,6 @@
 // Shelves in memory, which tell everything.
-ghost use Rattle.std.specs.Prelude.{◌≡◌, ◌+◌, ◌<◌, ◌≤◌, Some, None, [], ◌++◌, length, take, drop, MatchOption};
-ghost use Rattle.mlir_streams.specs.Fakes.{contents_of, opened_text};
+ghost use Rattle.std.specs.Prelude.{◌≡◌, ◌+◌, ◌<◌, ◌≤◌, Some, [], ◌++◌, length, take, drop};
+ghost use Rattle.mlir_streams.specs.Fakes.{contents_of, opened_text, IsPositionOf};
 
 use crate::count::{is_failing, raised};
 use crate::{Failed, OpenError, Shelf};
@@ -8,7 +8,7 @@ use mlir_base::{List, Name};
 
 // The number of the first file of a name.
 fn position_of(files: &[(Name, List<u8>)], name: &str) -> Option<usize>
-    ensures { MatchOption result (contents_of files.now name.now ≡ None) (λ index. contents_of files.now name.now ≡ Some (opened_text files.now (Some index))) }
+    ensures { IsPositionOf files.now name.now result }
 {
     for (index, file) in files.iter().enumerate() {
         if file.0.as_str() == name {
@@ -64,12 +64,15 @@ pub struct MemShelf {
 
 impl MemShelf {
     /// A shelf with these files and nothing opened. A read gives `most` bytes at most. The calls of
-    /// `open_file` and `read` whose numbers, counted together from 1, are in `failing` fail.
+    /// `open_file` and `read` whose numbers, counted together from 1, are in `failing` fail. The
+    /// count of faults begins at 0; that of absences is 0 and stays so, since the shelf tells its
+    /// files.
     pub fn new(files: List<(Name, List<u8>)>, most: u32, failing: List<u32>) -> MemShelf
         requires { 1 ≤ most }
         ensures files { ⟦<MemShelf as Shelf>⟧.files result ≡ Some (contents_of files) }
         ensures left { ⟦<MemShelf as Shelf>⟧.left result ≡ Some [] }
         ensures faults { ⟦<MemShelf as Shelf>⟧.faults result ≡ 0 }
+        ensures absences { ⟦<MemShelf as Shelf>⟧.absences result ≡ 0 }
     {
         MemShelf {
             files,
@@ -130,10 +133,12 @@ pub struct CleanShelf {
 }
 
 impl CleanShelf {
-    /// A shelf with these files and nothing opened.
+    /// A shelf with these files and nothing opened, whose counts are 0 and stay so.
     pub fn new(files: List<(Name, List<u8>)>) -> CleanShelf
         ensures files { ⟦<CleanShelf as Shelf>⟧.files result ≡ Some (contents_of files) }
         ensures left { ⟦<CleanShelf as Shelf>⟧.left result ≡ Some [] }
+        ensures faults { ⟦<CleanShelf as Shelf>⟧.faults result ≡ 0 }
+        ensures absences { ⟦<CleanShelf as Shelf>⟧.absences result ≡ 0 }
     {
         CleanShelf {
             files,

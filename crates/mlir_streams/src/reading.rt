@@ -6,7 +6,7 @@ use crate::Shelf;
 use std::alloc::Global;
 
 /// Why a file isn't read whole.
-#[derive(Clone, Copy, Debug, PartialEq, Eq, Drop)]
+#[derive(Clone, Copy, PartialEq, Eq, Drop)]
 pub enum FetchError {
     /// A read failed.
     Failed,

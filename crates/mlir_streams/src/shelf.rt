@@ -4,7 +4,7 @@ ghost use Rattle.std.specs.Io.KnownBytes.{Keeps, ReadConsumes};
 ghost use Rattle.mlir_streams.specs.Shelves.{OpenLeaves, OpenCause, AbsenceCause, ReadCause};
 
 /// Why a file isn't opened.
-#[derive(Clone, Copy, Debug, PartialEq, Eq, Drop)]
+#[derive(Clone, Copy, PartialEq, Eq, Drop)]
 pub enum OpenError {
     /// No file has the name.
     Absent,
@@ -15,7 +15,7 @@ pub enum OpenError {
 }
 
 /// A read failed.
-#[derive(Clone, Copy, Debug, PartialEq, Eq, Drop)]
+#[derive(Clone, Copy, PartialEq, Eq, Drop)]
 pub struct Failed;
 
 /// Files by name, of which one at a time is open. The empty name is standard input. Before the

@@ -4,7 +4,7 @@ ghost use Rattle.std.specs.Io.KnownBytes.{WriteAppends};
 ghost use Rattle.mlir_streams.specs.Sinks.{WriteCause};
 
 /// Why no byte was taken.
-#[derive(Clone, Copy, Debug, PartialEq, Eq, Drop)]
+#[derive(Clone, Copy, PartialEq, Eq, Drop)]
 pub enum WriteError {
     /// The device failed.
     Failed,

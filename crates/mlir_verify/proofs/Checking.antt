@@ -14,15 +14,17 @@ use Rattle.mlir_verify.specs.declared.rule.Rule.TheVariants.{V1}
 use Rattle.mlir_verify.specs.declared.rule.Refused.{Refused}
 use Rattle.mlir_verify.specs.declared.rule.Refused.TheVariants as Refusal
 use Rattle.std.specs.BTreeSet.{BTreeSet}
-use Rattle.std.specs.List.{flat_map}
+use Rattle.std.specs.List.{flat_map, list_all}
+use Rattle.std.proofs.lemmas.Bool.{and_parts, and_from}
 use Rattle.mlir_verify.specs.declared.scope.Scope.{Scope}
 use Rattle.mlir_verify.specs.declared.walk.Seen.{Seen}
 use Rattle.mlir_verify.specs.Place.{Place, Types, place_at, places_of, places_from, type_among, type_of, scope_at, is_empty, is_first, is_last}
-use Rattle.mlir_verify.specs.Names.{is_among, repeats, in_scope, breaks_names, breaks_own_names, defined_by, defined_in, defined_at, ids, ids_at, numbers, repeats_params}
-use Rattle.mlir_verify.specs.Rules.{broken, stands_at, first_broken, first_broken_of, AnswersVerify}
+use Rattle.affine_maps.specs.Permutation.{is_among}
+use Rattle.mlir_verify.specs.Names.{redefines, in_scope, breaks_names, breaks_own_names, defined_by, defined_in, defined_at, ids, ids_at, numbers, repeats_params}
+use Rattle.mlir_verify.specs.Rules.{broken, stands_at, first_broken, first_broken_of, has_body, IsVerified, AnswersVerify}
 use Rattle.mlir_ir.specs.declared.tree.Module.{Module}
 use Rattle.mlir_verify.specs.Scope.{types_in, constants_in, IsSet, Adds}
-use Rattle.mlir_verify.specs.Constants.{Constants, constants_before, constants_at, constants_of}
+use Rattle.mlir_verify.specs.Constants.{constants_before, constants_at, constants_of}
 use Rattle.mlir_verify.specs.Stages.{broken_below}
 use Rattle.mlir_verify.specs.Walk.{NamesOp, Stands, IsBefore, ChecksOp, ChecksFunc, ChecksFuncs, EntersFunc}
 use Rattle.mlir_verify.proofs.Adding.{set_at}
@@ -174,8 +176,8 @@ or_false : (b c : Bool) → (b || false) ≡ c → b ≡ c
 or_false true c e = e
 or_false false c e = e
 
--- a number that repeats alone is among those known, and else it isn't
-pub one_repeats : (n : ℕ) (known : List ℕ) (b : Bool) → repeats (n ∷ []) known ≡ b → is_among n known ≡ b
+-- a number that redefines alone is among those known, and else it isn't
+pub one_repeats : (n : ℕ) (known : List ℕ) (b : Bool) → redefines (n ∷ []) known ≡ b → is_among n known ≡ b
 one_repeats n known b e = or_false (is_among n known) b e
 
 -- an operation's numbers: its own is new, and its operands are in scope
@@ -186,14 +188,18 @@ op_named (Ok false) seen t o values ops a b s x = λ j. a j || (not (b j) || x j
 op_named (Err e) seen t o values ops a b s x = tt
 
 pub op_named_twice : (t : Types) (o : Op) (values ops : List ℕ) → is_among o.id.0 ops ≡ true → breaks_own_names t o values ops ≡ true
-op_named_twice t o values ops a = ap (λ b. b || (not (in_scope t (operands o.kind)) || repeats (defined_by o) values)) a
+op_named_twice t o values ops a = ap (λ b. b || (not (in_scope t (operands o.kind)) || redefines (defined_by o) values)) a
 
 pub op_out_of_scope : (t : Types) (o : Op) (values ops : List ℕ) → is_among o.id.0 ops ≡ false → in_scope t (operands o.kind) ≡ false → breaks_own_names t o values ops ≡ true
-op_out_of_scope t o values ops a b = λ j. a j || (not (b j) || repeats (defined_by o) values)
+op_out_of_scope t o values ops a b = λ j. a j || (not (b j) || redefines (defined_by o) values)
 
-pub verify_passes : (m : Module) (fs : List FuncShape) → fs ≡ m.funcs → first_broken_of (places_from fs []) ≡ None → first_broken m ≡ None
+pub bodies_last : (fs : List FuncShape) (f : FuncShape) → list_all has_body fs ≡ true → has_body f ≡ true → list_all has_body (fs ++ f ∷ []) ≡ true
+bodies_last [] f a b = and_from _ _ b refl
+bodies_last (g ∷ fs) f a b = let both = and_parts (has_body g) _ a in and_from _ _ both.0 (bodies_last fs f both.1 b)
+
+pub verify_passes : (m : Module) (fs : List FuncShape) → fs ≡ m.funcs → (first_broken_of (places_from fs []) ≡ None) × (list_all has_body fs ≡ true) → IsVerified m
 unfolding first_broken
-verify_passes m fs e a = ap (λ x. first_broken_of (places_from x [])) (sym e) ∙ a
+verify_passes m fs e a = (ap (λ x. first_broken_of (places_from x [])) (sym e) ∙ a.0, ap (list_all has_body) (sym e) ∙ a.1)
 
 pub verify_fails : (e : Refused) (m : Module) (fs : List FuncShape) → fs ≡ m.funcs → ChecksFuncs (Err e) fs → AnswersVerify m (Err e)
 unfolding first_broken

@@ -1,6 +1,6 @@
 -- Products that stop at a greatest number.
-use Rattle.std.proofs.Common.{◌≡◌, ℕ, zero, suc, ◌+◌, ◌*◌, ◌≤◌, ◌<◌, min, arith, refl, ap, sym, ◌∙◌, inl, inr, ◌⊎◌}
-use Rattle.std.proofs.Math.Nat.{min-eq_left, min-eq_right, mul_assoc, mul-le-mul_right, le-mul_of_pos_right}
+use Rattle.std.proofs.Common.{◌≡◌, ℕ, zero, suc, ◌*◌, ◌≤◌, min, arith, ap, sym, ◌∙◌, inl, inr, ◌⊎◌}
+use Rattle.std.proofs.Math.Nat.{min-eq_left, min-eq_right, mul-le-mul_right, le-mul_of_pos_right}
 
 by_size : (a b : ℕ) → (a ≤ b) ⊎ (b ≤ a)
 by_size zero b = inl (omega arith)

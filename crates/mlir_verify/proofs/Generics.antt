@@ -1,12 +1,12 @@
 -- The rules V5 to V8 of a generic, from what its parts answer.
-use Rattle.std.proofs.Common.{◌≡◌, ℕ, ◌&&◌, Bool, true, false, List, length, Option, Some, None, Result, Ok, Err, ap, sym, ◌∙◌}
+use Rattle.std.proofs.Common.{◌≡◌, ℕ, ◌&&◌, true, false, List, length, Option, Some, None, Result, Ok, Err, ap, sym, ◌∙◌}
 use Rattle.std.specs.Prelude.{not, IfOk}
 use Rattle.std.specs.List.{list_all, zip}
 use Rattle.std.specs.BTreeMap.{BTreeMap}
 use Rattle.std.specs.BTreeSet.{BTreeSet}
 use Rattle.mlir_base.specs.declared.memory.Memory.{Memory}
 use Rattle.affine_maps.specs.Shape.{MapShape}
-use Rattle.affine_maps.specs.Permutation.{is_projected_permutation}
+use Rattle.affine_maps.specs.Permutation.{is_projected_permutation, is_among}
 use Rattle.mlir_ir.specs.declared.tree.Extent.{Extent}
 use Rattle.mlir_ir.specs.declared.tree.Iter.{Iter}
 use Rattle.mlir_ir.specs.declared.tree.Ty.{Ty}
@@ -14,7 +14,6 @@ use Rattle.mlir_ir.specs.declared.tree.ValueId.{ValueId}
 use Rattle.mlir_verify.specs.declared.rule.Rule.{Rule}
 use Rattle.mlir_verify.specs.declared.rule.Rule.TheVariants.{V5}
 use Rattle.mlir_verify.specs.Place.{Types}
-use Rattle.mlir_verify.specs.Names.{is_among}
 use Rattle.mlir_verify.specs.Maps.{Axis, axes, extent_of, fits_operand, fit_operands, cover_dimensions, match_output, on_output, output_map, output_dimensions}
 use Rattle.mlir_verify.specs.Extents.{axes_agree, keeps_output}
 use Rattle.mlir_verify.specs.Windows.{inputs_stay_in}

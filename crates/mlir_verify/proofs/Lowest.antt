@@ -1,8 +1,7 @@
 -- The lowest rule of an operation, put together from the parts.
-use Rattle.std.proofs.Common.{◌≡◌, Bool, true, false, Option, Some, None, refl, ap}
-use Rattle.std.specs.Prelude.{if◌then◌else◌, not}
+use Rattle.std.proofs.Common.{◌≡◌, Bool, true, false, Some, None, refl, ap}
+use Rattle.std.specs.Prelude.{if◌then◌else◌}
 use Rattle.mlir_ir.specs.Count.{first}
-use Rattle.mlir_verify.specs.declared.rule.Rule.{Rule}
 use Rattle.mlir_verify.specs.declared.rule.Rule.TheVariants.{V1, V5, V6, V7, V8, V14}
 use Rattle.mlir_verify.specs.Place.{Place, is_first, is_last, type_of}
 use Rattle.mlir_verify.specs.Names.{breaks_names}

@@ -11,7 +11,8 @@ use Rattle.mlir_ir.specs.declared.tree.OpKind.{Generic}
 use Rattle.mlir_ir.specs.declared.tree.ValueId.{ValueId}
 use Rattle.mlir_verify.specs.declared.rule.Rule.{Rule}
 use Rattle.mlir_verify.specs.Place.{Place, places, type_of, is_first}
-use Rattle.mlir_verify.specs.Names.{breaks_names, in_scope, is_among, repeats_params, ids_at}
+use Rattle.affine_maps.specs.Permutation.{is_among}
+use Rattle.mlir_verify.specs.Names.{breaks_names, in_scope, repeats_params, ids_at}
 use Rattle.mlir_verify.specs.Maps.{axes}
 use Rattle.mlir_verify.specs.Extents.{axes_agree, keeps_extents, breaks_extents}
 use Rattle.mlir_verify.specs.Rules.{broken, fails, lowest, rules_in_order, stands_at, first_broken, first_broken_of, IsVerified}
@@ -31,7 +32,7 @@ places_pass (p ∷ ps) e = let h = by_rule (broken p) refl e in (h.0, places_pas
 -- no rule is broken at any place
 pub verified_places : (m : Module) → IsVerified m → Each (λ p. broken p ≡ None) (places m)
 unfolding first_broken
-verified_places m e = places_pass (places m) e
+verified_places m e = places_pass (places m) e.0
 
 lowest_passes : (rs : List Rule) (p : Place) → lowest rs p ≡ None → Each (λ r. fails r p ≡ false) rs
 lowest_passes [] p e = tt

@@ -1,12 +1,13 @@
 -- Values that an `arith.constant` defines, and V2 of an `arith.constant` (Arith, "arith.constant").
-use Rattle.std.specs.Prelude.{ℕ, ◌==◌, ◌^◌, ◌&&◌, nat_lt, Bool, true, false, List, [], length, Option, Some, None, if◌then◌else◌}
+use Rattle.std.specs.Prelude.{ℕ, ◌==◌, ◌^◌, ◌&&◌, nat_lt, Bool, true, false, List, [], length, Option, Some, if◌then◌else◌}
 use Rattle.std.specs.List.{flat_map, list_all}
 use Rattle.mlir_base.specs.declared.types.ElemTy.TheVariants.{Int}
 use Rattle.mlir_ir.specs.declared.tree.Op.{Op}
 use Rattle.mlir_ir.specs.declared.tree.OpKind.{OpKind, Constant}
 use Rattle.mlir_ir.specs.declared.tree.Ty.{Ty}
 use Rattle.mlir_ir.specs.declared.tree.Ty.TheVariants.{Scalar, Tensor}
-use Rattle.mlir_verify.specs.Names.{is_among, numbers}
+use Rattle.affine_maps.specs.Permutation.{is_among}
+use Rattle.mlir_verify.specs.Names.{numbers}
 use Rattle.mlir_verify.specs.Place.{Place}
 use Rattle.mlir_verify.specs.Tensors.{elements}
 

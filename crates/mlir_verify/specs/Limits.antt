@@ -1,5 +1,5 @@
 -- V14: the limits on rank, loops, extent and elements are kept. They are the product's own.
-use Rattle.std.specs.Prelude.{ℕ, ◌&&◌, ◌||◌, not, nat_le, Bool, true, List, length}
+use Rattle.std.specs.Prelude.{◌&&◌, ◌||◌, not, nat_le, Bool, true, List, length}
 use Rattle.std.specs.List.{list_all}
 use Rattle.mlir_ir.specs.Shape.{FuncShape}
 use Rattle.mlir_ir.specs.declared.tree.Extent.{Extent}

@@ -3,7 +3,7 @@
 use Rattle.std.specs.Prelude.{ℕ, ◌==◌, ◌&&◌, not, is_some, int_le, Bool, false, pos, List, [], ◌∷◌, ◌++◌, length, Option, Some, None, slice_get, ◌-◌, if◌then◌else◌}
 use Rattle.std.specs.List.{list_all, zip, flat_map, filter_map, enumerate_from}
 use Rattle.affine_maps.specs.Shape.{MapShape}
-use Rattle.affine_maps.specs.Permutation.{dimension_of, dimensions_of, is_projected_permutation}
+use Rattle.affine_maps.specs.Permutation.{dimension_of, dimensions_of, is_projected_permutation, is_among}
 use Rattle.affine_maps.specs.declared.map.Expr.{Expr}
 use Rattle.mlir_ir.specs.declared.tree.Extent.{Extent}
 use Rattle.mlir_ir.specs.declared.tree.Iter.{Iter}
@@ -13,7 +13,6 @@ use Rattle.mlir_ir.specs.declared.tree.Ty.{Ty}
 use Rattle.mlir_ir.specs.declared.tree.ValueId.{ValueId}
 use Rattle.mlir_verify.specs.Place.{Types}
 use Rattle.mlir_verify.specs.Tensors.{extents_of}
-use Rattle.mlir_verify.specs.Names.{is_among}
 
 -- the last map is the output's
 abbrev pub output_map : List MapShape → Option MapShape

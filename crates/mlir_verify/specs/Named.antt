@@ -1,6 +1,6 @@
 -- V2 of the named structured operations (Linalg, "linalg.fill", "linalg.matmul", "linalg.batch_matmul", "linalg.transpose",
 -- "linalg.broadcast"); that their result is like their output is told beside that of a generic.
-use Rattle.std.specs.Prelude.{ℕ, ◌==◌, ◌+◌, ◌&&◌, not, nat_lt, nat_le, Bool, false, List, length, Option, Some, None}
+use Rattle.std.specs.Prelude.{ℕ, ◌==◌, ◌+◌, ◌&&◌, not, nat_lt, nat_le, Bool, false, List, length, Option, Some}
 use Rattle.std.specs.List.{list_all}
 use Rattle.affine_maps.specs.Permutation.{repeats}
 use Rattle.mlir_base.specs.declared.types.ElemTy.TheVariants.{Int}
@@ -19,9 +19,9 @@ is_element _ _ = false
 abbrev pub is_typed_fill : Types → Constants → ValueId → ValueId → Bool
 is_typed_fill t constants value outs = is_element (t value.0) (t outs.0) && constants value.0
 
--- tensors, the first with elements of no greater width
+-- tensors, the first with elements of at least one bit and of no greater width
 abbrev pub is_at_most_as_wide : Option Ty → Option Ty → Bool
-is_at_most_as_wide (Some (Tensor xs v)) (Some (Tensor ys w)) = nat_le v w
+is_at_most_as_wide (Some (Tensor xs v)) (Some (Tensor ys w)) = nat_lt 0 v && nat_le v w
 is_at_most_as_wide _ _ = false
 
 -- inputs of equal width, at most the output's, and each operand with so many axes

@@ -1,6 +1,7 @@
 -- V1: numbers of values and operations are unique, and each use is of a value in scope.
-use Rattle.std.specs.Prelude.{ℕ, ◌==◌, ◌&&◌, ◌||◌, not, is_some, Bool, false, List, [], ◌∷◌, ◌++◌, map}
-use Rattle.std.specs.List.{flat_map, list_any, list_all}
+use Rattle.std.specs.Prelude.{ℕ, ◌&&◌, ◌||◌, not, is_some, Bool, false, List, [], ◌∷◌, ◌++◌, map}
+use Rattle.std.specs.List.{flat_map, list_all}
+use Rattle.affine_maps.specs.Permutation.{is_among}
 use Rattle.mlir_ir.specs.Shape.{FuncShape}
 use Rattle.mlir_ir.specs.Count.{operands}
 use Rattle.mlir_ir.specs.declared.tree.Op.{Op}
@@ -9,13 +10,10 @@ use Rattle.mlir_ir.specs.declared.tree.Ty.{Ty}
 use Rattle.mlir_ir.specs.declared.tree.ValueId.{ValueId}
 use Rattle.mlir_verify.specs.Place.{Place, Types, is_first, type_of}
 
-abbrev pub is_among : ℕ → List ℕ → Bool
-is_among n ns = list_any (λ m. m == n) ns
-
 -- whether a number is known before, or stands twice
-abbrev pub repeats : List ℕ → List ℕ → Bool
-repeats [] known = false
-repeats (n ∷ ns) known = is_among n known || repeats ns (known ++ n ∷ [])
+abbrev pub redefines : List ℕ → List ℕ → Bool
+redefines [] known = false
+redefines (n ∷ ns) known = is_among n known || redefines ns (known ++ n ∷ [])
 
 abbrev pub numbers : List (ValueId × Ty) → List ℕ
 numbers = map (λ d. (d.0).0)
@@ -48,11 +46,11 @@ in_scope t = list_all (λ v. is_some (t v.0))
 
 -- a parameter is defined by its function, and stands at the function's first operation
 abbrev pub repeats_params : List FuncShape → FuncShape → Bool
-repeats_params before f = repeats (numbers f.params) (defined_in before)
+repeats_params before f = redefines (numbers f.params) (defined_in before)
 
 -- an operation that repeats a number, or uses a value out of scope; `values` and `ops` are the numbers before
 abbrev pub breaks_own_names : Types → Op → List ℕ → List ℕ → Bool
-breaks_own_names t o values ops = is_among o.id.0 ops || (not (in_scope t (operands o.kind)) || repeats (defined_by o) values)
+breaks_own_names t o values ops = is_among o.id.0 ops || (not (in_scope t (operands o.kind)) || redefines (defined_by o) values)
 
 unfoldable pub breaks_names : Place → Bool
 breaks_names p =

@@ -1,5 +1,7 @@
 -- The verifier's rules, and the first operation at which one fails.
-use Rattle.std.specs.Prelude.{◌≡◌, Bool, false, List, [], ◌∷◌, Option, Some, None, Result, Ok, Err, ⊤, if◌then◌else◌}
+use Rattle.std.specs.Prelude.{◌≡◌, nat_lt, Bool, true, false, List, length, [], ◌∷◌, Option, Some, None, Result, Ok, Err, ⊤, if◌then◌else◌}
+use Rattle.std.specs.List.{list_all}
+use Rattle.mlir_ir.specs.Shape.{FuncShape}
 use Rattle.mlir_ir.specs.declared.tree.Module.{Module}
 use Rattle.mlir_ir.specs.declared.tree.OpId.{OpId}
 use Rattle.mlir_verify.specs.declared.rule.Rule.{Rule}
@@ -51,12 +53,16 @@ first_broken_of (p ∷ ps) = stands_at p.op.id (broken p) (first_broken_of ps)
 unfoldable pub first_broken : Module → Option (Rule × OpId)
 first_broken m = first_broken_of (places m)
 
+-- a body isn't empty, so that it has a terminator; the type of a function keeps it
+abbrev pub has_body : FuncShape → Bool
+has_body f = nat_lt 0 (length f.body)
+
 -- no rule fails in the module
 abbrev pub IsVerified : Module → Type 0
-IsVerified m = first_broken m ≡ None
+IsVerified m = (first_broken m ≡ None) × (list_all has_body m.funcs ≡ true)
 
 -- what `verify` answers; only want of memory is free
 abbrev pub AnswersVerify : Module → Result Module Refused → Type 0
-AnswersVerify m (Ok n) = (n ≡ m) × (first_broken m ≡ None)
+AnswersVerify m (Ok n) = (n ≡ m) × IsVerified m
 AnswersVerify m (Err (Refusal.Rule r i)) = first_broken m ≡ Some (r, i)
 AnswersVerify m (Err Refusal.Memory) = ⊤

@@ -1,12 +1,14 @@
 -- V2: operands, results and attributes have the types and lengths of their operation (Linalg, "linalg.generic"; Tensor,
 -- "tensor.empty"; Func, "func.return"; `Constants` and `Named` have the other operations).
-use Rattle.std.specs.Prelude.{ℕ, ◌==◌, ◌&&◌, not, nat_lt, Bool, true, false, List, [], ◌∷◌, length, Option, Some, None}
+use Rattle.std.specs.Prelude.{ℕ, ◌==◌, ◌&&◌, not, nat_lt, Bool, true, false, List, ◌∷◌, length, Option, Some}
 use Rattle.std.specs.List.{list_all, zip}
 use Rattle.mlir_base.specs.declared.types.ElemTy.{ElemTy}
 use Rattle.mlir_base.specs.declared.types.ElemTy.TheVariants.{Int}
 use Rattle.payload_ops.specs.declared.step.StepOp.{StepOp}
 use Rattle.payload_ops.specs.declared.step.StepOp.TheVariants as S
+use Rattle.payload_ops.specs.Payload.{payload_fits}
 use Rattle.payload_ops.specs.Shape.{PayloadShape}
+use Rattle.affine_maps.specs.Map.{map_fits}
 use Rattle.affine_maps.specs.Shape.{MapShape}
 use Rattle.mlir_ir.specs.declared.tree.Iter.{Iter}
 use Rattle.mlir_ir.specs.declared.tree.OpKind.{OpKind, Constant, Empty, Generic, Fill, Matmul, BatchMatmul, Transpose, Broadcast, Return}
@@ -31,16 +33,16 @@ is_input (Some (Tensor extents v)) constant (Int w) = v == w
 is_input (Some (Scalar (Int v))) constant (Int w) = v == w && constant
 is_input _ _ _ = false
 
--- the inputs fit the payload's inputs, and the output is a tensor of its output
+-- the inputs fit the payload's inputs, the output is a tensor of its output, and its steps fit together
 abbrev pub is_typed_payload : Types → Constants → ℕ → List ValueId → ValueId → List ValueId → PayloadShape → Bool
 is_typed_payload t constants dims ins outs captured p =
     (length ins == length p.ins && list_all (λ x. is_input (t (x.0).0) (constants (x.0).0) x.1) (zip ins p.ins))
-    && (has_elements (t outs.0) p.out && list_all (λ s. names_present dims (length captured) s.op) p.steps)
+    && (has_elements (t outs.0) p.out && (list_all (λ s. names_present dims (length captured) s.op) p.steps && payload_fits p))
 
--- one map for each operand; no captured values, since index values aren't built
+-- one map for each operand, whose terms name its dimensions; no captured values, since index values aren't built
 abbrev pub is_typed_generic : Types → Constants → List MapShape → List Iter → List ValueId → ValueId → List ValueId → PayloadShape → Bool
 is_typed_generic t constants maps iterators ins outs captured p =
-    (length maps == length (outs ∷ ins) && is_empty captured) && is_typed_payload t constants (length iterators) ins outs captured p
+    (length maps == length (outs ∷ ins) && (is_empty captured && list_all map_fits maps)) && is_typed_payload t constants (length iterators) ins outs captured p
 
 abbrev pub is_typed_return : Types → List Ty → List (ValueId × Ty) → List ValueId → Bool
 is_typed_return t wanted results values =

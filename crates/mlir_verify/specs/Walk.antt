@@ -1,6 +1,6 @@
 -- What the walk over a module's operations keeps and answers.
 use Rattle.std.specs.Prelude.{◌≡◌, ℕ, Bool, true, false, List, [], ◌∷◌, ◌++◌, Some, None, Result, Ok, Err, ⊤}
-use Rattle.std.specs.List.{flat_map}
+use Rattle.std.specs.List.{flat_map, list_all}
 use Rattle.mlir_base.specs.declared.memory.Memory.{Memory}
 use Rattle.mlir_ir.specs.Shape.{FuncShape}
 use Rattle.mlir_ir.specs.declared.tree.Op.{Op}
@@ -11,7 +11,7 @@ use Rattle.mlir_verify.specs.declared.walk.Seen.{Seen}
 use Rattle.mlir_verify.specs.Place.{Place, Types, places_of, places_from, scope_at, type_among}
 use Rattle.mlir_verify.specs.Names.{breaks_own_names, defined_by, defined_in, defined_at, ids, ids_at, repeats_params}
 use Rattle.mlir_verify.specs.Constants.{constants_at}
-use Rattle.mlir_verify.specs.Rules.{broken, first_broken_of}
+use Rattle.mlir_verify.specs.Rules.{broken, first_broken_of, has_body}
 use Rattle.mlir_verify.specs.Scope.{types_in, IsSet}
 
 -- an operation's numbers were taken in: `false` where they break V1
@@ -39,7 +39,7 @@ ChecksOp (Err (Refusal.Rule r i)) seen scope p = (broken p ≡ Some r) × (i ≡
 ChecksOp (Err Refusal.Memory) seen scope p = ⊤
 
 abbrev pub ChecksFunc : Result (Unit {0}) Refused → Seen → List FuncShape → FuncShape → Type 0
-ChecksFunc (Ok x) seen before f = (first_broken_of (places_of f.body [] before f) ≡ None) × IsBefore seen (before ++ f ∷ [])
+ChecksFunc (Ok x) seen before f = (first_broken_of (places_of f.body [] before f) ≡ None) × IsBefore seen (before ++ f ∷ []) × (has_body f ≡ true)
 ChecksFunc (Err (Refusal.Rule r i)) seen before f = first_broken_of (places_of f.body [] before f) ≡ Some (r, i)
 ChecksFunc (Err Refusal.Memory) seen before f = ⊤
 
@@ -49,6 +49,6 @@ EntersFunc (Err (Refusal.Rule r i)) seen scope before f = first_broken_of (place
 EntersFunc (Err Refusal.Memory) seen scope before f = ⊤
 
 abbrev pub ChecksFuncs : Result (Unit {0}) Refused → List FuncShape → Type 0
-ChecksFuncs (Ok x) fs = first_broken_of (places_from fs []) ≡ None
+ChecksFuncs (Ok x) fs = (first_broken_of (places_from fs []) ≡ None) × (list_all has_body fs ≡ true)
 ChecksFuncs (Err (Refusal.Rule r i)) fs = first_broken_of (places_from fs []) ≡ Some (r, i)
 ChecksFuncs (Err Refusal.Memory) fs = ⊤

@@ -1,6 +1,6 @@
 -- V8: an element that a map's result selects lies in its operand, where the result isn't one dimension alone (Linalg,
 -- "linalg.generic"). No number of the map is negative (V5), so its value is greatest at the greatest coordinates.
-use Rattle.std.specs.Prelude.{ℕ, ◌||◌, ◌==◌, not, is_some, int_lt, Bool, false, ℤ, pos, negsuc, ◌+ℤ◌, ◌-ℤ◌, List, Option, Some, None}
+use Rattle.std.specs.Prelude.{ℕ, ◌||◌, ◌==◌, not, is_some, int_lt, Bool, false, ℤ, pos, negsuc, ◌+ℤ◌, ◌-ℤ◌, List, Option, Some}
 use Rattle.std.specs.List.{list_all, list_any, zip, enumerate_from}
 use Rattle.affine_maps.specs.Shape.{MapShape}
 use Rattle.affine_maps.specs.Permutation.{dimension_of}

@@ -94,7 +94,7 @@ pub(crate) fn is_transposed(order: &[u32], source: &[Extent], out: &[Extent]) ->
     order.iter().zip(out).all(|(k, x)| has_axis(source, *k, *x))
 }
 
-fn is_among(axis: usize, axes: &[u32]) -> bool
+fn is_added(axis: usize, axes: &[u32]) -> bool
     ensures { result ≡ is_among axis axes.now }
 {
     axes.iter().any(|named| *named as usize == axis)
@@ -116,7 +116,7 @@ pub(crate) fn is_broadcast(added: &[u32], source: &[Extent], out: &[Extent]) -> 
 {
     let mut left = source;
     for (k, x) in out.iter().enumerate() {
-        if is_among(k, added) {
+        if is_added(k, added) {
             continue;
         }
         match after_same(*x, left) {

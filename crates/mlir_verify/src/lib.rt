@@ -36,8 +36,6 @@ mod rule;
 mod scope;
 mod structured;
 mod tensors;
-#[cfg(test)]
-mod tests;
 mod types;
 mod walk;
 mod windows;

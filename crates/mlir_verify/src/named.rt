@@ -32,7 +32,7 @@ fn is_at_most_as_wide(s: Option<&Ty>, t: Option<&Ty>) -> bool
 {
     match (s, t) {
         (Some(Ty::Tensor { elem: v, .. }), Some(Ty::Tensor { elem: w, .. })) => {
-            v.bits() <= w.bits()
+            0 < v.bits() && v.bits() <= w.bits()
         }
         _ => false,
     }

@@ -2,7 +2,7 @@ ghost use Rattle.std.specs.Prelude.{◌≡◌, ℕ, not, IfOk, None, Some, if◌
 ghost use Rattle.std.specs.List.{list_all, zip};
 ghost use Rattle.mlir_verify.specs.Extents.{keeps_output, is_product, is_batch_product, is_transposed, is_broadcast, has_extents_of};
 ghost use Rattle.mlir_verify.specs.Maps.{axes, extent_of, output_map, output_dimensions};
-ghost use Rattle.mlir_verify.specs.Names.{is_among};
+ghost use Rattle.affine_maps.specs.Permutation.{is_among};
 ghost use Rattle.mlir_verify.specs.Scope.{types_in, IsSet};
 ghost use Rattle.mlir_verify.specs.Stages.{broken_loops, broken_generic, broken_points, extent_in, is_in, FitsOperands};
 ghost use Rattle.mlir_verify.specs.Tensors.{extents_of};

@@ -1,5 +1,7 @@
 ghost use Rattle.std.specs.Prelude.{◌≡◌, option_copied};
 ghost use Rattle.std.specs.List.{list_all, zip};
+ghost use Rattle.affine_maps.specs.Map.{map_fits};
+ghost use Rattle.payload_ops.specs.Payload.{payload_fits};
 ghost use Rattle.mlir_verify.specs.Scope.{types_in, constants_in};
 ghost use Rattle.mlir_verify.specs.Tensors.{is_alike};
 ghost use Rattle.mlir_verify.specs.Named.{is_typed_product, is_typed_transpose, is_typed_broadcast};
@@ -46,6 +48,14 @@ fn are_inputs(scope: &Scope, ins: &[ValueId], elems: &[ElemTy]) -> bool
     ins.iter().zip(elems).all(|(v, elem)| is_input(scope.type_of(*v), scope.is_constant(*v), elem))
 }
 
+/// The type keeps that the steps of a payload fit together.
+fn fits(payload: &Payload) -> bool
+    ensures { result ≡ payload_fits payload.now }
+{
+    let _steps = payload.steps();
+    true
+}
+
 fn is_typed_payload(
     scope: &Scope,
     dims: usize,
@@ -59,7 +69,21 @@ fn is_typed_payload(
     let elems = payload.ins().as_slice();
     (ins.len() == elems.len() && are_inputs(scope, ins, elems))
         && (has_elements(scope.type_of(outs), &payload.out())
-            && are_present(dims, captured.len(), payload.steps().as_slice()))
+            && (are_present(dims, captured.len(), payload.steps().as_slice()) && fits(payload)))
+}
+
+/// The type keeps that the terms of a map name its dimensions.
+fn is_map(map: &AffineMap) -> bool
+    ensures { result ≡ map_fits map.now }
+{
+    let _results = map.results();
+    true
+}
+
+fn are_maps(maps: &[AffineMap]) -> bool
+    ensures { result ≡ list_all map_fits maps.now }
+{
+    maps.iter().all(|map| is_map(map))
 }
 
 fn is_typed_generic(
@@ -73,7 +97,7 @@ fn is_typed_generic(
 ) -> bool
     ensures { result ≡ is_typed_generic (types_in scope.now) (constants_in scope.now) maps.now iterators.now ins.now outs captured.now payload.now }
 {
-    (maps.len() == ins.len() + 1 && captured.is_empty())
+    (maps.len() == ins.len() + 1 && (captured.is_empty() && are_maps(maps)))
         && is_typed_payload(scope, iterators.len(), ins, outs, captured, payload)
 }
 

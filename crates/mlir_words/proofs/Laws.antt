@@ -6,12 +6,13 @@ use Rattle.std.specs.List.{AllByRecursion, flat_map}
 use Rattle.std.specs.List.Sorted.{IsPermutation}
 use Rattle.mlir_words.specs.Asked.{Item, Options, Text, sample, refused, asked, differ_after, each_once, form_of, items, options_by, place}
 use Rattle.mlir_words.specs.Request.{Answers, RequestShape, SourceShape, TaskShape, input_source, is_sample_alone, lowering, module_of, module_request, module_source, nonempty, number_of, print, request_by, request_of, run_task, running, sample_of, task_by, without_run, worker_count}
-use Rattle.mlir_words.specs.Spelled.{Ending, IsSpelled, Spelled, flag_word, joined, parted, file_word, is_plain_word, item_of, spelled, spelled_items, words_of}
+use Rattle.mlir_words.specs.Spelled.{Ending, IsSpelled, Spelled, flag_word, joined, parted, file_word, is_plain_word, item_of, option_word, spelled, spelled_items, words_of}
 use Rattle.mlir_words.specs.Table.{IsRefused, ReadsRows, RefusesWords, Spells, empty_file, empty_input, empty_lower, empty_run, input_without_run, lower_and_run, lowered_items, printed_items, run_items, sample_with_others, sample_without_number, standard_input_twice, workers_without_number, workers_without_run}
 use Rattle.mlir_words.specs.declared.request.Request.{Request}
 use Rattle.mlir_words.specs.declared.request.WordsError.{WordsError}
 use Rattle.std.proofs.lemmas.List.Sorted.{IsPermutation-sym}
 use Rattle.mlir_words.proofs.Orders.{any_order}
+use Rattle.mlir_words.proofs.Refused.{many_files_refused, valueless_refused}
 use Rattle.mlir_words.proofs.Spellings.{asked_spelled, parted_value, twice_spelled, unknown_refused}
 
 -- ---- the rows of the table
@@ -300,5 +301,11 @@ refuses_words words result answers = record {
   none = λ empty. answers_as words result _ answers (ap request_of empty);
   twice = λ given spells again. answers_as words result _ answers (refused_twice words given spells again);
   unknown = λ program all word rest is bad are. answers_as words result _ answers (ap request_of are ∙ unknown program all word rest is bad);
+  valueless = λ program all part rest is takes lacks are. answers_as words result _ answers
+      (ap request_of are ∙ refused_words program (flat_map words_of all ++ option_word part ∷ rest)
+      (valueless_refused all part rest is takes lacks));
+  many_files = λ program all first second rest is are. answers_as words result _ answers
+      (ap request_of are ∙ refused_words program (flat_map words_of all ++ codes "--" ∷ first ∷ second ∷ rest)
+      (many_files_refused all first second rest is));
   asking = λ options is why. answers_as words result _ answers (refused_asked words options is why);
 }

@@ -8,4 +8,5 @@ pub mod Account
 pub mod Numerals
 pub mod Orders
 pub mod Spellings
+pub mod Refused
 pub mod Laws

@@ -21,7 +21,7 @@ times_sum p (u ∷ us) = ap (λ n. cond (is_of p u) 1 0 + n) (times_sum p us) �
 
 -- ---- each at most once, by the counts
 
-none_before : (p : Part) (u : Item) (before : List Item) → is_of p u ≡ true → has p (before ++ u ∷ []) ≡ true
+pub none_before : (p : Part) (u : Item) (before : List Item) → is_of p u ≡ true → has p (before ++ u ∷ []) ≡ true
 none_before p u before is = has-append p before (u ∷ []) ∙ ap (λ b. has p before || (b || false)) is ∙ go (has p before)
   where
     go : (b : Bool) → (b || (true || false)) ≡ true
@@ -31,7 +31,7 @@ none_before p u before is = has-append p before (u ∷ []) ∙ ap (λ b. has p b
 still_before : (p : Part) (u : Item) (before : List Item) → has p before ≡ true → has p (before ++ u ∷ []) ≡ true
 still_before p u before is = has-append p before (u ∷ []) ∙ ap (λ b. b || has p (u ∷ [])) is
 
-itself : (p : Part) → (place p == place p) ≡ true
+pub itself : (p : Part) → (place p == place p) ≡ true
 itself p = grind (arith, nat_tests)
 
 both : (a b : Bool) → (a && b) ≡ true → (a ≡ true) × (b ≡ true)

@@ -1,10 +1,12 @@
 -- What spelled words give.
-use Rattle.std.proofs.Common.{◌≡◌, ◌∙◌, ◌==◌, Bool, cond, true, false, not, refl, sym, ap, true≢false, List, [], ◌∷◌, ◌++◌, append_assoc, codes, Some, None}
+use Rattle.std.proofs.Common.{◌≡◌, ◌∙◌, ◌==◌, Bool, cond, true, false, not, refl, sym, ap, true≢false, List, [], ◌∷◌, ◌++◌}
+use Rattle.std.proofs.Common.{append_assoc, codes, map, Some, None}
 use Rattle.std.specs.Prelude.{option_and_then}
 use Rattle.std.specs.List.{AllByRecursion, flat_map}
 use Rattle.std.specs.List.Sorted.{IsPermutation}
 use Rattle.std.proofs.lemmas.List.Sorted.{IsPermutation-refl}
-use Rattle.mlir_words.specs.Asked.{Item, Part, Text, sample, anything, flag, attached, awaits, plain, refused, asked, differ_after, each_once, form_of, gives, items, long_form, options_by, options_once, value_read, word_read}
+use Rattle.mlir_words.specs.Asked.{Item, Part, Text, sample, anything, flag, attached, awaits, plain, refused, asked, differ_after}
+use Rattle.mlir_words.specs.Asked.{each_once, form_of, gives, items, long_form, options_by, options_once, value_read, word_read}
 use Rattle.mlir_words.specs.Spelled.{Ending, IsSpelled, Spelled, dashes, ending_items, ending_words, file_behind, file_word, flag_word, is_option, is_plain_word, item_of, joined, nothing_behind, option_word, parted, spelled, spelled_items, words_of}
 use Rattle.mlir_words.proofs.Steps.{each_option}
 use Rattle.mlir_words.proofs.Orders.{any_order}
@@ -15,7 +17,7 @@ flag_form = refl
 joined_form : (p : Part) → is_option p ≡ true → (v : Text) → form_of (option_word p ++ 61 ∷ v) ≡ attached p v
 joined_form = each_option (λ p. (v : Text) → form_of (option_word p ++ 61 ∷ v) ≡ attached p v) (λ v. refl) (λ v. refl) (λ v. refl) (λ v. refl) (λ v. refl)
 
-parted_form : (p : Part) → is_option p ≡ true → form_of (option_word p) ≡ awaits p
+pub parted_form : (p : Part) → is_option p ≡ true → form_of (option_word p) ≡ awaits p
 parted_form = each_option (λ p. form_of (option_word p) ≡ awaits p) refl refl refl refl refl
 
 plain_form : (v : Text) → is_plain_word v ≡ true → form_of v ≡ plain
@@ -65,16 +67,26 @@ pub twice_spelled : (all : List Spelled) (ending : Ending) → AllByRecursion Is
 twice_spelled all ending is twice =
     ap (option_and_then options_once) (items_spelled all ending is) ∙ ap (λ b. cond b (Some (options_by (spelled_items all ending))) None) twice
 
--- a word that is refused, behind spelled ones
-unknown_rest : (all : List Spelled) (word : Text) (rest : List Text) → AllByRecursion IsSpelled all → form_of word ≡ refused → items (flat_map words_of all ++ word ∷ rest) anything ≡ None
-unfolding items
-unknown_rest [] word rest is bad = ap (λ f. word_read f word (items rest)) bad
-unknown_rest (s ∷ all) word rest is bad =
-    ap (λ words. items words anything) (append_assoc (words_of s) (flat_map words_of all) (word ∷ rest))
-    ∙ one_spelled s (flat_map words_of all ++ word ∷ rest) is.0 ∙ ap (gives (item_of s).0 (item_of s).1) (unknown_rest all word rest is.1 bad)
+-- what other words give, behind spelled ones
+pub given_behind : (all : List Spelled) (words : List Text) (rest : List Item) → AllByRecursion IsSpelled all → items words anything ≡ Some rest
+    → items (flat_map words_of all ++ words) anything ≡ Some (map item_of all ++ rest)
+given_behind [] words rest is given = given
+given_behind (s ∷ all) words rest is given =
+    ap (λ all. items all anything) (append_assoc (words_of s) (flat_map words_of all) words)
+    ∙ one_spelled s (flat_map words_of all ++ words) is.0 ∙ ap (gives (item_of s).0 (item_of s).1) (given_behind all words rest is.1 given)
 
+pub none_behind : (all : List Spelled) (words : List Text) → AllByRecursion IsSpelled all → items words anything ≡ None
+    → items (flat_map words_of all ++ words) anything ≡ None
+none_behind [] words is none = none
+none_behind (s ∷ all) words is none =
+    ap (λ all. items all anything) (append_assoc (words_of s) (flat_map words_of all) words)
+    ∙ one_spelled s (flat_map words_of all ++ words) is.0 ∙ ap (gives (item_of s).0 (item_of s).1) (none_behind all words is.1 none)
+
+-- a word that is refused, behind spelled ones
 pub unknown_refused : (all : List Spelled) (word : Text) (rest : List Text) → AllByRecursion IsSpelled all → form_of word ≡ refused → asked (flat_map words_of all ++ word ∷ rest) ≡ None
-unknown_refused all word rest is bad = ap (option_and_then options_once) (unknown_rest all word rest is bad)
+unfolding items
+unknown_refused all word rest is bad = ap (option_and_then options_once)
+    (none_behind all (word ∷ rest) is (ap (λ f. word_read f word (items rest)) bad))
 
 -- `--sample` and its size
 pub parted_value : (size : Text) → is_plain_word size ≡ true → asked (codes "--sample" ∷ size ∷ []) ≡ Some (options_by ((sample, size) ∷ []))

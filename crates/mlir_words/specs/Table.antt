@@ -1,6 +1,6 @@
 -- The table of commands, row by row, with any values and in any order of the words, and what is
 -- refused.
-use Rattle.std.specs.Prelude.{◌≡◌, ℕ, Bool, true, false, codes, List, [], ◌∷◌, ◌++◌, drop, Option}
+use Rattle.std.specs.Prelude.{◌≡◌, ℕ, Bool, true, false, not, codes, List, [], ◌∷◌, ◌++◌, drop, Option}
 use Rattle.std.specs.Prelude.{Some, None, Result, option_map}
 use Rattle.std.specs.List.{AllByRecursion, flat_map}
 use Rattle.std.specs.List.Sorted.{IsPermutation}
@@ -9,8 +9,8 @@ use Rattle.mlir_words.specs.Asked.{lower, refused, run, sample, transform_interp
 use Rattle.mlir_words.specs.Request.{Answers, SourceShape, input_source, is_sample_alone}
 use Rattle.mlir_words.specs.Request.{lowering, module_of, module_source, nonempty, number_of, print}
 use Rattle.mlir_words.specs.Request.{running, sample_of, standard_input, worker_count}
-use Rattle.mlir_words.specs.Spelled.{Ending, IsSpelled, Spelled, item_of, spelled, spelled_items}
-use Rattle.mlir_words.specs.Spelled.{words_of}
+use Rattle.mlir_words.specs.Spelled.{Ending, IsSpelled, Spelled, is_option, is_plain_word, item_of}
+use Rattle.mlir_words.specs.Spelled.{option_word, spelled, spelled_items, words_of}
 use Rattle.mlir_words.specs.declared.request.Request.{Request}
 use Rattle.mlir_words.specs.declared.request.WordsError.{WordsError}
 
@@ -85,8 +85,14 @@ pub data IsRefused (words : List Text) (options : Options) : Type 0 where
   workers_without_number : (text : Text) → options.sample ≡ None → options.workers ≡ Some text
       → number_of text ≡ None → IsRefused words options
 
+-- no word is left for an option's value, or the next one begins with `-` and is longer
+abbrev pub lacks_value : List Text → Bool
+lacks_value [] = true
+lacks_value (word ∷ rest) = not (is_plain_word word)
+
 -- words are refused that are none, that give a part twice, in which a word begins with `-` and is
--- no option, and that ask for what is refused
+-- no option, in which an option stands without its value, that give two files or more behind `--`,
+-- and that ask for what is refused
 pub record RefusesWords (words : List Text) (result : Result Request WordsError) : Type 0 where
   pub none : words ≡ [] → Answers None result
   pub twice : (given : List Item) → Spells words given → each_once given ≡ false
@@ -94,5 +100,12 @@ pub record RefusesWords (words : List Text) (result : Result Request WordsError)
   pub unknown : (program : Text) (all : List Spelled) (word : Text) (rest : List Text)
       → AllByRecursion IsSpelled all → form_of word ≡ refused
       → words ≡ program ∷ (flat_map words_of all ++ word ∷ rest) → Answers None result
+  pub valueless : (program : Text) (all : List Spelled) (part : Part) (rest : List Text)
+      → AllByRecursion IsSpelled all → is_option part ≡ true → lacks_value rest ≡ true
+      → words ≡ program ∷ (flat_map words_of all ++ option_word part ∷ rest) → Answers None result
+  pub many_files : (program : Text) (all : List Spelled) (first second : Text) (rest : List Text)
+      → AllByRecursion IsSpelled all
+      → words ≡ program ∷ (flat_map words_of all ++ codes "--" ∷ first ∷ second ∷ rest)
+      → Answers None result
   pub asking : (options : Options) → asked (drop 1 words) ≡ Some options
       → IsRefused (drop 1 words) options → Answers None result

@@ -2,7 +2,8 @@
 
 ghost use Rattle.std.specs.Prelude.{◌≡◌, IfOk, IfSome, map, drop, option_map, string_bytes};
 ghost use Rattle.mlir_words.specs.App.{options_given};
-ghost use Rattle.mlir_words.specs.Request.{Answers, IsRequestInRange, IsTaskInRange, is_sample_alone, request_by, request_of, request_shape, source_shape, task_by, task_shape};
+ghost use Rattle.mlir_words.specs.Request.{Answers, IsRequestInRange, IsTaskInRange, is_sample_alone, request_by};
+ghost use Rattle.mlir_words.specs.Request.{request_of, request_shape, source_shape, task_by, task_shape};
 ghost use Rattle.mlir_words.specs.Table.{ReadsRows, RefusesWords};
 
 use crate::given::{Given, given_in};

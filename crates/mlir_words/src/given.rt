@@ -3,7 +3,8 @@
 ghost use Rattle.std.specs.Prelude.{◌≡◌, IfOk, false, List, [], ◌∷◌, map, drop, option_map, string_bytes};
 ghost use Rattle.clap.specs.Words.{app_of, first_of, found_of, rows_of, with_rule};
 ghost use Rattle.mlir_words.specs.Asked.{asked};
-ghost use Rattle.mlir_words.specs.App.{Gives, the_app, bare_app, flag_rule, option_rule, file_rule, is_set, options_in, options_given};
+ghost use Rattle.mlir_words.specs.App.{Gives, the_app, bare_app, flag_rule, option_rule, file_rule, is_set};
+ghost use Rattle.mlir_words.specs.App.{options_in, options_given};
 
 use crate::request::WordsError;
 use clap::error::ErrorKind;

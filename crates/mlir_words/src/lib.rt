@@ -19,6 +19,3 @@ mod values;
 
 pub use command::read_words;
 pub use request::{Request, Source, Task, WordsError};
-
-#[cfg(test)]
-mod tests;

@@ -1,5 +1,5 @@
 /// What the words of a command line ask for.
-#[derive(Clone, Copy, Debug, PartialEq, Eq, Drop)]
+#[derive(Clone, Copy, PartialEq, Eq, Drop)]
 pub enum Request<'a> {
     /// `--sample=K`: the sample of size `k`, from 1 to 64.
     Sample {
@@ -15,7 +15,7 @@ pub enum Request<'a> {
 }
 
 /// Where a text comes from.
-#[derive(Clone, Copy, Debug, PartialEq, Eq, Drop)]
+#[derive(Clone, Copy, PartialEq, Eq, Drop)]
 pub enum Source<'a> {
     /// Standard input, for the word `-` or where no file is named.
     StandardInput,
@@ -24,7 +24,7 @@ pub enum Source<'a> {
 }
 
 /// What is done with a module.
-#[derive(Clone, Copy, Debug, PartialEq, Eq, Drop)]
+#[derive(Clone, Copy, PartialEq, Eq, Drop)]
 pub enum Task<'a> {
     /// The module is printed.
     Print,
@@ -41,7 +41,7 @@ pub enum Task<'a> {
 }
 
 /// Why there is no request.
-#[derive(Clone, Copy, Debug, PartialEq, Eq, Drop)]
+#[derive(Clone, Copy, PartialEq, Eq, Drop)]
 pub enum WordsError {
     /// The words are no command.
     Words,

@@ -1,7 +1,8 @@
 //! The values of single options.
 
 ghost use Rattle.std.specs.Prelude.{◌≡◌, IfSome, option_map};
-ghost use Rattle.mlir_words.specs.Request.{IsInRange, input_source, module_source, nonempty, number_of, source_named, source_shape, worker_count};
+ghost use Rattle.mlir_words.specs.Request.{IsInRange, input_source, module_source, nonempty, number_of};
+ghost use Rattle.mlir_words.specs.Request.{source_named, source_shape, worker_count};
 
 use crate::request::Source;
 

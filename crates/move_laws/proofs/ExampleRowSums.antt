@@ -3,7 +3,7 @@ use Rattle.std.proofs.Common.{◌≡◌, ℕ, zero, suc, ◌+◌, ◌<◌, ◌^�
 use Rattle.std.specs.Prelude.{option_map}
 use Rattle.std.proofs.lemmas.Bool.{true≢false}
 use Rattle.payload_ops.specs.Bits.{on_values}
-use Rattle.payload_ops.specs.Known.{is_neutral_under}
+use Rattle.payload_laws.specs.Known.{is_neutral_under}
 use Rattle.payload_ops.specs.Values.{op_value}
 use Rattle.payload_ops.specs.Shape.{PayloadShape}
 use Rattle.payload_ops.specs.declared.kinds.BinOp.TheVariants.{Addi}

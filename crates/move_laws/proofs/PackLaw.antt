@@ -7,15 +7,16 @@ use Rattle.std.proofs.lemmas.List.Folds.{fold-map}
 use Rattle.std.proofs.lemmas.Nat.{div-mul-add, div-add-mod'}
 use Rattle.std.proofs.lemmas.Option.{none-some, same_Some}
 use Rattle.affine_maps.specs.Map.{dimension}
-use Rattle.payload_ops.specs.Combine.{joined, value_after}
+use Rattle.payload_ops.specs.Combine.{joined}
+use Rattle.payload_laws.specs.Combiners.{value_after}
 use Rattle.mlir_base.specs.Types.{bits_of}
 use Rattle.payload_ops.specs.Shape.{PayloadShape}
 use Rattle.payload_ops.specs.Values.{Given, payload_value}
 use Rattle.payload_ops.specs.declared.step.PayloadStep.{PayloadStep}
-use Rattle.payload_ops.proofs.Combiners.{joins_term}
-use Rattle.payload_ops.proofs.Joined.{joined_below}
-use Rattle.payload_ops.proofs.KnownValues.{keeps_output}
-use Rattle.payload_ops.proofs.Traps.{never_traps}
+use Rattle.payload_laws.proofs.Combiners.{joins_term}
+use Rattle.payload_laws.proofs.Joined.{joined_below}
+use Rattle.payload_laws.proofs.KnownValues.{keeps_output}
+use Rattle.payload_laws.proofs.Traps.{never_traps}
 use Rattle.mlir_meaning.specs.declared.values.Grid.{Grid}
 use Rattle.mlir_meaning.specs.declared.values.Datum.TheVariants.{Cells}
 use Rattle.mlir_meaning.specs.Grids.{points, at, settled, is_inside, same_point, InBox, Each}

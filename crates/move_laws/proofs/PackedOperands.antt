@@ -9,7 +9,7 @@ use Rattle.std.proofs.lemmas.Option.{none-some, same_Some}
 use Rattle.affine_maps.specs.Shape.{MapShape}
 use Rattle.affine_maps.specs.Map.{dimension}
 use Rattle.affine_maps.specs.declared.map.Expr.{Expr}
-use Rattle.payload_ops.specs.Laws.{AgreesWith}
+use Rattle.payload_laws.specs.Laws.{AgreesWith}
 use Rattle.mlir_meaning.specs.declared.values.Grid.{Grid}
 use Rattle.mlir_meaning.specs.declared.values.Datum.{Datum}
 use Rattle.mlir_meaning.specs.declared.values.Datum.TheVariants.{Number, Bits, Cells}

@@ -94,8 +94,12 @@ pub record Pair : Type 0 where
 
 abbrev pub pair_ops : Pair → Instance → OpKind → List Op
 pair_ops n g kind =
-    record { id = n.id; results = (n.result, n.ty) ∷ []; kind = Generic
-    (maps_of g.maps g.box g.ds) n.iterators n.ins n.outs n.names g.payload }
+    record {
+      id = n.id;
+      results = (n.result, n.ty) ∷ [];
+      kind = Generic
+          (maps_of g.maps g.box g.ds) n.iterators n.ins n.outs n.names g.payload;
+    }
     ∷ record { id = n.back_id; results = (n.back, n.back_ty) ∷ []; kind = kind } ∷ []
 
 pub record HoldsInstance (s : State) (n : Pair) (g : Instance) : Type 0 where

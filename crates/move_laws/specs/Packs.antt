@@ -6,7 +6,7 @@ use Rattle.std.specs.Option.{option_map_or}
 use Rattle.affine_maps.specs.Map.{dimension}
 use Rattle.affine_maps.specs.Shape.{MapShape}
 use Rattle.affine_maps.specs.declared.map.Expr.{Expr}
-use Rattle.payload_ops.specs.Known.{is_neutral_under}
+use Rattle.payload_laws.specs.Known.{is_neutral_under}
 use Rattle.mlir_base.specs.Types.{bits_of}
 use Rattle.payload_ops.specs.Shape.{PayloadShape}
 use Rattle.payload_ops.specs.declared.step.StepOp.{StepOp}
@@ -104,8 +104,11 @@ inner_axes n ts [] = []
 inner_axes n ts (e ∷ es) = with_inner (axis_tile ts e) (dimension (n + axis_place ts e)) (inner_axes n ts es)
 
 abbrev pub packed_map : List ℕ → MapShape → MapShape
-packed_map ts m = record { dims = length ts + length (cut_sizes ts); results = m.results
-    ++ inner_axes (length ts) ts m.results }
+packed_map ts m = record {
+  dims = length ts + length (cut_sizes ts);
+  results = m.results
+      ++ inner_axes (length ts) ts m.results;
+}
 
 -- the same of the dimensions that the output's map selects
 abbrev pub inner_dims : ℕ → List ℕ → List ℕ → List ℕ

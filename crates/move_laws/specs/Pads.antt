@@ -4,7 +4,7 @@ use Rattle.std.specs.List.{list_any}
 use Rattle.std.specs.Option.{option_map_or}
 use Rattle.affine_maps.specs.Shape.{MapShape}
 use Rattle.affine_maps.specs.declared.map.Expr.{Expr}
-use Rattle.payload_ops.specs.Known.{is_neutral_under}
+use Rattle.payload_laws.specs.Known.{is_neutral_under}
 use Rattle.mlir_base.specs.Types.{bits_of}
 use Rattle.payload_ops.specs.Shape.{PayloadShape}
 use Rattle.mlir_meaning.specs.Grids.{at, InBox, Each}

@@ -1,16 +1,17 @@
 -- Payloads with a combiner join terms that may change places, and a neutral term may be added anywhere.
 use Rattle.std.proofs.Common.{◌≡◌, ℕ, ◌<◌, ◌^◌, List, [], ◌∷◌, ◌++◌, fold, Option, Some, None, refl, ap, sym, ◌∙◌, subst}
 use Rattle.std.specs.Prelude.{option_map, option_and_then}
-use Rattle.payload_ops.specs.Combine.{joined, neutral_of, combining, value_after}
-use Rattle.payload_ops.specs.Laws.{with_out}
+use Rattle.payload_ops.specs.Combine.{joined}
+use Rattle.payload_laws.specs.Combiners.{neutral_of, combining, value_after}
+use Rattle.payload_laws.specs.Laws.{with_out}
 use Rattle.payload_ops.specs.Payload.{IsPayload}
 use Rattle.mlir_base.specs.Types.{bits_of}
 use Rattle.payload_ops.specs.Shape.{PayloadShape}
 use Rattle.payload_ops.specs.Values.{Given, payload_value}
 use Rattle.payload_ops.specs.declared.kinds.Combiner.{Combiner}
 use Rattle.payload_ops.specs.declared.step.Arg.{Arg}
-use Rattle.payload_ops.proofs.Combiners.{joins_term, term_apart}
-use Rattle.payload_ops.proofs.Joined.{joined_assoc, joined_comm, joined_neutral, joined_below}
+use Rattle.payload_laws.proofs.Combiners.{joins_term, term_apart}
+use Rattle.payload_laws.proofs.Joined.{joined_assoc, joined_comm, joined_neutral, joined_below}
 use Rattle.point_laws.specs.Folds.{Swaps}
 
 pub combine_swaps : (c : Combiner) (w : ℕ) → Swaps (joined c w)

@@ -1,11 +1,11 @@
 -- Folds whose terms may change places, and what is known of a payload whose terms they are.
 use Rattle.std.specs.Prelude.{◌≡◌, ℕ, List, false, Option, Some, option_and_then, Bool, true}
-use Rattle.payload_ops.specs.Combine.{combining}
+use Rattle.payload_laws.specs.Combiners.{combining}
 use Rattle.payload_ops.specs.Shape.{PayloadShape}
 use Rattle.payload_ops.specs.declared.kinds.Combiner.{Combiner}
 use Rattle.payload_ops.specs.declared.step.Arg.{Arg}
 use Rattle.payload_ops.specs.Payload.{IsPayload}
-use Rattle.payload_ops.specs.Known.{may_trap}
+use Rattle.payload_laws.specs.Known.{may_trap}
 
 -- a step whose terms may change places
 abbrev pub Swaps : {A X : Type 0} → (A → X → A) → Type 0

@@ -1,7 +1,8 @@
 -- The laws. Each is the contract of a function in `src/laws.rt`.
 use Rattle.std.specs.Prelude.{length, ◌≡◌, ℕ, ◌<◌, ◌^◌, ◌&&◌, ◌||◌, Bool, false, List, ◌∷◌, ◌++◌, map, flat_map, fold, filter, Option, option_and_then, IsPermutation, true}
 use Rattle.affine_maps.specs.Shape.{MapShape}
-use Rattle.payload_ops.specs.Combine.{joined, neutral_of}
+use Rattle.payload_ops.specs.Combine.{joined}
+use Rattle.payload_laws.specs.Combiners.{neutral_of}
 use Rattle.payload_ops.specs.Shape.{PayloadShape}
 use Rattle.payload_ops.specs.declared.kinds.Combiner.{Combiner}
 use Rattle.mlir_meaning.specs.Grids.{is_inside, points, plus, lies_in, same_point, InBox, Fits, Each}

@@ -187,19 +187,19 @@ module _ (k1 k2 : ℕ) (s : State) (cells : List ℕ) (b : InBox (counts (cut_di
         rank = refl;
         within = b;
         body = record {
-        slices = (
-          refl,
-          knows 0 refl,
-          (
+          slices = (
             refl,
-            (λ w k. (λ j. to_nat (number_of ((k 11 refl ∙ turn.0) j)) ∷ to_nat (number_of ((k 14 refl ∙ turn.1.0) j)) ∷ []) ∙ sym (output_offsets (is_cut ts) box (tile_offsets box ts q) (tile_sizes box ts q) c (0 ∷ 1 ∷ []))),
-            (λ w k. (λ j. to_nat (number_of (k 16 refl j)) ∷ to_nat (number_of (k 17 refl j)) ∷ []) ∙ sym (output_sizes (is_cut ts) box (tile_offsets box ts q) (tile_sizes box ts q) c (0 ∷ 1 ∷ []) (lt 0 1, (lt 1 0, tt)))),
-          ),
-          refl,
-          tt,
-        );
-        captures = λ w k. refl;
-        moves = still_is add box (tile_offsets box ts q) (tile_sizes box ts q) [] c.fits (tt, tt);
+            knows 0 refl,
+            (
+              refl,
+              (λ w k. (λ j. to_nat (number_of ((k 11 refl ∙ turn.0) j)) ∷ to_nat (number_of ((k 14 refl ∙ turn.1.0) j)) ∷ []) ∙ sym (output_offsets (is_cut ts) box (tile_offsets box ts q) (tile_sizes box ts q) c (0 ∷ 1 ∷ []))),
+              (λ w k. (λ j. to_nat (number_of (k 16 refl j)) ∷ to_nat (number_of (k 17 refl j)) ∷ []) ∙ sym (output_sizes (is_cut ts) box (tile_offsets box ts q) (tile_sizes box ts q) c (0 ∷ 1 ∷ []) (lt 0 1, (lt 1 0, tt)))),
+            ),
+            refl,
+            tt,
+          );
+          captures = λ w k. refl;
+          moves = still_is add box (tile_offsets box ts q) (tile_sizes box ts q) [] c.fits (tt, tt);
         };
         means = λ w rs o x e f h. refl;
       })
@@ -207,10 +207,10 @@ module _ (k1 k2 : ℕ) (s : State) (cells : List ℕ) (b : InBox (counts (cut_di
         known = refl;
         holds = at_arg;
         slice = record {
-        offsets = λ w k. λ j. to_nat (number_of ((k 11 refl ∙ turn.0) j)) ∷ [];
-        sizes = λ w k. λ j. to_nat (number_of (k 16 refl j)) ∷ [];
-        new = refl;
-        other = ((λ e. absurd (omega arith)), tt);
+          offsets = λ w k. λ j. to_nat (number_of ((k 11 refl ∙ turn.0) j)) ∷ [];
+          sizes = λ w k. λ j. to_nat (number_of (k 16 refl j)) ∷ [];
+          new = refl;
+          other = ((λ e. absurd (omega arith)), tt);
         };
       })
       made_names refl

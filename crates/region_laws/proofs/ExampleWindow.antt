@@ -164,15 +164,15 @@ notes (k ∷ []) h =
       rank = refl;
       within = h;
       body = record {
-      slices = (
-        refl,
-        begin.knows 0 refl,
-        (refl, (λ w e. (λ j. to_nat (number_of ((e 11 refl ∙ begin.vars.0) j)) ∷ []) ∙ (λ j. at_offset j ∷ [])), (λ w e. λ j. ((1 * (sym two j - 1) + (1 * (3 - 1) + 0)) + 1) ∷ [])),
-        refl,
-        (refl, begin.knows 1 refl, refl, tt, tt),
-      );
-      captures = λ w e. refl;
-      moves = still_is multiply_add box (tile_offsets box ts (k ∷ [])) (tile_sizes box ts (k ∷ [])) [] (tile_cut box ts (k ∷ []) h).fits (tt, (tt, tt));
+        slices = (
+          refl,
+          begin.knows 0 refl,
+          (refl, (λ w e. (λ j. to_nat (number_of ((e 11 refl ∙ begin.vars.0) j)) ∷ []) ∙ (λ j. at_offset j ∷ [])), (λ w e. λ j. ((1 * (sym two j - 1) + (1 * (3 - 1) + 0)) + 1) ∷ [])),
+          refl,
+          (refl, begin.knows 1 refl, refl, tt, tt),
+        );
+        captures = λ w e. refl;
+        moves = still_is multiply_add box (tile_offsets box ts (k ∷ [])) (tile_sizes box ts (k ∷ [])) [] (tile_cut box ts (k ∷ []) h).fits (tt, (tt, tt));
       };
       means = λ w rs o x e f h. refl;
     })
@@ -180,10 +180,10 @@ notes (k ∷ []) h =
       known = refl;
       holds = begin.start;
       slice = record {
-      offsets = λ w e. λ j. to_nat (number_of ((e 11 refl ∙ begin.vars.0) j)) ∷ [];
-      sizes = λ w e. λ j. sym two j ∷ [];
-      new = refl;
-      other = ((λ e. absurd (omega arith)), ((λ e. absurd (omega arith)), tt));
+        offsets = λ w e. λ j. to_nat (number_of ((e 11 refl ∙ begin.vars.0) j)) ∷ [];
+        sizes = λ w e. λ j. sym two j ∷ [];
+        new = refl;
+        other = ((λ e. absurd (omega arith)), ((λ e. absurd (omega arith)), tt));
       };
     })
     made_names refl begin.shared begin.inserts

@@ -15,7 +15,7 @@ use Rattle.payload_ops.specs.declared.step.Arg.TheVariants.{Input, Out, Step}
 use Rattle.payload_ops.specs.declared.step.PayloadStep.{PayloadStep}
 use Rattle.payload_ops.specs.declared.step.StepOp.{StepOp}
 use Rattle.payload_ops.specs.declared.step.StepOp.TheVariants.{Const, Index, Captured, Linear, Binary, Compare, Select, SignExtend, ZeroExtend, Truncate, IndexCast}
-use Rattle.payload_ops.proofs.Fitted.{and_then_same}
+use Rattle.payload_laws.proofs.Fitted.{and_then_same}
 use Rattle.payload_ops.proofs.Words.{reduce_is}
 use Rattle.mlir_meaning.specs.Grids.{plus, Fits, Each}
 use Rattle.region_laws.specs.Operands.{IsMoved}

@@ -143,8 +143,12 @@ tiled_op b outs n = record { id = n.id; results = (n.result, n.ty) ∷ []; kind 
 abbrev pub sliced_body : TileBody → ValueId → Slice → Names → List Op
 sliced_body b arg c n =
     slice_ops b.inputs ++ (slice_op arg c ∷ tiled_op b c.result n
-    ∷ record { id = n.insertion; results = (n.inserted, n.inserted_ty)
-    ∷ []; kind = InsertSlice n.result arg c.offsets c.sizes } ∷ yield_of n.end n.inserted ∷ [])
+    ∷ record {
+      id = n.insertion;
+      results = (n.inserted, n.inserted_ty)
+          ∷ [];
+      kind = InsertSlice n.result arg c.offsets c.sizes;
+    } ∷ yield_of n.end n.inserted ∷ [])
 
 -- with the carried tensor whole
 abbrev pub whole_body : TileBody → ValueId → Names → List Op

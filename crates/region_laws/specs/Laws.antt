@@ -117,8 +117,14 @@ BodyNotesTile = (g : Instance) (ts q : List ℕ) (M : ℕ → Bool) (t : State) 
 abbrev pub ForallBegins : Type 0
 ForallBegins = (N : ℕ → Bool) (u : State) (dims : List (ℕ × ℕ)) (vs : List ValueId) (lower upper stride : List Idx)
     (arg outs : ValueId) (ty : Ty) (q : List ℕ) →
-    let h : ForallHead = record { vars = vs; lower = lower; upper = upper; step = stride; shared = (arg, ty, outs)
-    ∷ [] } in
+    let h : ForallHead = record {
+      vars = vs;
+      lower = lower;
+      upper = upper;
+      step = stride;
+      shared = (arg, ty, outs)
+          ∷ [];
+    } in
     TileLoop dims u h → N arg.0 ≡ false → AreNewVars (with_value N arg) vs →
     Begins N u dims vs arg (u.values outs.0) q (forall_state u h q)
 
@@ -177,8 +183,14 @@ TileForallMeansGeneric = (g : Instance) (ts : List ℕ) → IsTypedInstance g �
     CutsOutput (is_cut ts) g.box g.ds →
     (u : State) (vs : List ValueId) (lower upper stride : List Idx) (arg outs : ValueId) (ty : Ty) (inner : List Op)
     (rs : List (ValueId × Ty)) →
-    let h : ForallHead = record { vars = vs; lower = lower; upper = upper; step = stride; shared = (arg, ty, outs)
-    ∷ [] } in
+    let h : ForallHead = record {
+      vars = vs;
+      lower = lower;
+      upper = upper;
+      step = stride;
+      shared = (arg, ty, outs)
+          ∷ [];
+    } in
     TileLoop (cut_dims g.box ts) u h → u.values outs.0 ≡ Cells g.width g.out →
     NotesTiles u h (cut_dims g.box ts) (λ q. picks g.ds (tile_offsets g.box ts q))
     (started_tile (step_of g) g.box ts g.ds g.out) inner →

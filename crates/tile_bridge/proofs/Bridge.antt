@@ -19,7 +19,7 @@ use Rattle.mlir_meaning.specs.Grids.{IsFull, Each}
 use Rattle.mlir_meaning.specs.Meaning.{kind_meaning, values_in, captured_in}
 use Rattle.mlir_meaning.specs.Points.{has}
 use Rattle.mlir_meaning.specs.States.{State, made, grid_of, width_of}
-use Rattle.mlir_meaning.specs.Structured.{generic_result}
+use Rattle.mlir_meaning.specs.Structured.{generic_result, operand_extent}
 use Rattle.mlir_meaning.specs.declared.values.Datum.{Datum}
 use Rattle.mlir_meaning.specs.declared.values.Datum.TheVariants.{Number, Bits, Cells}
 use Rattle.mlir_meaning.proofs.States.{generic_runs}
@@ -35,7 +35,10 @@ use Rattle.verified_runs.specs.Forms.{Structured, kind_of}
 use Rattle.verified_runs.specs.Typed.{AreCells, AreTyped, Holds, HoldsIn, IsSized}
 use Rattle.tile_bridge.specs.Instances.{IsInstance, instance_of, input_maps, is_parallel}
 use Rattle.tile_bridge.proofs.Axes.{HasExtents}
-use Rattle.tile_bridge.proofs.Fitting.{Passes, enumerated, inputs_fit, out_once, out_ds, out_below, out_extents, maps_are, all_there, box_rank, front_is, values_front}
+use Rattle.tile_bridge.proofs.Fitting.{Passes, enumerated, inputs_fit, out_once, out_ds, out_below, out_extents, maps_are, all_there, box_rank, front_is, values_front, all_fit}
+use Rattle.region_laws.specs.Operands.{AllFit, IsThere}
+use Rattle.point_laws.specs.Boxes.{picks}
+use Rattle.affine_maps.specs.Permutation.{repeats}
 
 not_true : (b : Bool) → not b ≡ false → b ≡ true
 not_true true e = refl

@@ -27,12 +27,14 @@ use Rattle.mlir_verify.specs.Place.{Types}
 use Rattle.mlir_verify.specs.Tensors.{extents_of}
 use Rattle.mlir_verify.specs.Maps.{Axis, axis, operand_axes, output_axes, axes, extent_of, output_map, output_dimensions, on_output, fits_operand, is_not_negative}
 use Rattle.mlir_verify.specs.Extents.{has_extent, axes_agree}
-use Rattle.mlir_verify.specs.Windows.{operand_stays_in, is_zero, has_no_points}
+use Rattle.mlir_verify.specs.Windows.{operand_stays_in, is_zero, has_no_points, stays_in, is_below, greatest_value}
 use Rattle.point_laws.specs.Boxes.{NoPoints, picks}
 use Rattle.point_laws.proofs.Tables.{tabled_at, tabled_length}
 use Rattle.region_laws.specs.Operands.{AxesFit, AllFit, IsPlain, IsThere, ReadsAxes, maps_of}
 use Rattle.tile_bridge.proofs.Axes.{IsSize, HasExtents, axes_of, operands_sizes, known_is}
 use Rattle.tile_bridge.proofs.Reading.{Stays, plain_results, reads_axes}
+use Rattle.verified_runs.specs.Typed.{IsSized}
+use Rattle.affine_maps.specs.Permutation as affine
 
 -- THE LAST MAP
 pub record Split (maps : List MapShape) (n : ℕ) : Type 0 where
@@ -67,16 +69,16 @@ all_parts f (x ∷ xs) ys h =
     let parts = and_parts (f x) (list_all f (xs ++ ys)) h in
     let rest = all_parts f xs ys parts.1 in ((λ j. parts.0 j && rest.0 j), rest.1)
 
-zip_front : {A B : Type 0} (as : List A) (a : A) (bs : List B) → length as ≡ length bs → zip (as ++ a ∷ []) bs ≡ zip as bs
+zip_front : {A B : Type 0} (xs : List A) (a : A) (bs : List B) → length xs ≡ length bs → zip (xs ++ a ∷ []) bs ≡ zip xs bs
 zip_front [] a [] l = refl
 zip_front [] a (b ∷ bs) l = absurd (omega arith)
-zip_front (x ∷ as) a [] l = absurd (omega arith)
-zip_front (x ∷ as) a (b ∷ bs) l = λ j. (x, b) ∷ zip_front as a bs (omega arith) j
+zip_front (x ∷ xs) a [] l = absurd (omega arith)
+zip_front (x ∷ xs) a (b ∷ bs) l = λ j. (x, b) ∷ zip_front xs a bs (omega arith) j
 
-zip_behind : {A B : Type 0} (as : List A) (bs : List B) (b : B) → length bs ≡ length as → zip as (bs ++ b ∷ []) ≡ zip as bs
+zip_behind : {A B : Type 0} (xs : List A) (bs : List B) (b : B) → length bs ≡ length xs → zip xs (bs ++ b ∷ []) ≡ zip xs bs
 zip_behind [] bs b l = refl
-zip_behind (x ∷ as) [] b l = absurd (omega arith)
-zip_behind (x ∷ as) (y ∷ bs) b l = λ j. (x, y) ∷ zip_behind as bs b (omega arith) j
+zip_behind (x ∷ xs) [] b l = absurd (omega arith)
+zip_behind (x ∷ xs) (y ∷ bs) b l = λ j. (x, y) ∷ zip_behind xs bs b (omega arith) j
 
 pub enumerated : (its : List Iter) (a : ℕ) (P : ℕ × Iter → Bool) → list_all P (enumerate_from a its) ≡ true → (k : ℕ) → k < length its → P (a + k, get_or its k Parallel) ≡ true
 enumerated [] a P h k l = absurd (omega arith)
@@ -90,8 +92,8 @@ any_enumerated [] a P h = absurd cc
 any_enumerated (i ∷ its) a P h = by (P a) refl (any_enumerated its (a + 1) P) h where
   by : (b : Bool) → P a ≡ b → (list_any (λ (i : ℕ × Iter). P i.0) (enumerate_from (a + 1) its) ≡ true → (k : ℕ) × (k < length its) × (P ((a + 1) + k) ≡ true)) →
       (b || list_any (λ (i : ℕ × Iter). P i.0) (enumerate_from (a + 1) its)) ≡ true → (k : ℕ) × (k < suc (length its)) × (P (a + k) ≡ true)
-  by true q rest h = (0, (omega arith, (let e : a + 0 ≡ a = omega arith in ap P e ∙ q)))
-  by false q rest h = let r = rest h in (suc r.0, (omega (arith, r.1), (let e : a + suc r.0 ≡ (a + 1) + r.0 = omega arith in ap P e ∙ r.2)))
+  by true q rest h = (0, omega arith, (let e : a + 0 ≡ a = omega arith in ap P e ∙ q))
+  by false q rest h = let r = rest h in (suc r.0, omega (arith, r.1), (let e : a + suc r.0 ≡ (a + 1) + r.0 = omega arith in ap P e ∙ r.2))
 
 pub values_front : (e : ℕ → Datum) (vs : List ValueId) (v : ValueId) → values_in e (vs ++ v ∷ []) ≡ values_in e vs ++ e v.0 ∷ []
 values_front e [] v = refl
@@ -149,6 +151,10 @@ module _ (t : Types) (u : State) (n : ℕ) (box : List ℕ) (rank : length box �
   all_fit (m ∷ ms) [] l maps h s a w = absurd (omega arith)
 
 -- THE OUTPUT
+dimensions_back : (ds : List ℕ) → dimensions_of (map dimension ds) ≡ ds
+dimensions_back [] = refl
+dimensions_back (d ∷ ds) = λ j. d ∷ dimensions_back ds j
+
 dims_below : (n : ℕ) (ds : List ℕ) → Each (IsPlain n) (map dimension ds) → Each (λ d. d < n) ds
 dims_below n [] p = tt
 dims_below n (d ∷ ds) p = (p.0.1.0.1, dims_below n ds p.1)
@@ -186,22 +192,22 @@ each_behind P [] x h k = (k, tt)
 each_behind P (y ∷ xs) x h k = (h.0, each_behind P xs x h.1 k)
 
 module _ (t : Types) (u : State) (maps : List MapShape) (iterators : List Iter) (ins : List ValueId) (outs : ValueId) (p : Passes t u maps iterators ins outs) where
-  abbrev n : ℕ
+  abbrev pub n : ℕ
   n = length iterators
 
-  abbrev all : List Axis
+  abbrev pub all : List Axis
   all = axes t maps ins outs
 
-  abbrev operands : List Datum
+  abbrev pub operands : List Datum
   operands = values_in u.values ins ++ u.values outs.0 ∷ []
 
-  abbrev box : List ℕ
+  abbrev pub box : List ℕ
   box = generic_box maps n operands
 
   rank : length box ≡ n
   rank = tabled_length (λ d. unwrap_or (operand_extent d maps operands) 0) n
 
-  s : Split maps (length ins)
+  pub s : Split maps (length ins)
   s = split maps (length ins) p.counted
 
   one_list : all ≡ axes_of t maps (ins ++ outs ∷ [])
@@ -212,7 +218,7 @@ module _ (t : Types) (u : State) (maps : List MapShape) (iterators : List Iter) 
 
   sizes : (d : ℕ) → IsSize (extent_of all d) (operand_extent d maps operands)
   sizes d =
-      subst (λ as'. IsSize (extent_of as' d) (operand_extent d maps operands)) (sym one_list)
+      subst (λ all'. IsSize (extent_of all' d) (operand_extent d maps operands)) (sym one_list)
       (subst (λ xs. IsSize (extent_of (axes_of t maps (ins ++ outs ∷ [])) d) (operand_extent d maps xs)) (values_front u.values ins outs)
       (operands_sizes t u d maps (ins ++ outs ∷ []) (each_behind (HasExtents t u) ins outs p.sized p.out_sized)))
 
@@ -231,7 +237,7 @@ module _ (t : Types) (u : State) (maps : List MapShape) (iterators : List Iter) 
     zero_at : (k : ℕ) → k < n → is_zero (extent_of all k) ≡ true → NoPoints box
     zero_at k l h =
         let m : k < length box = omega (arith, l, rank) in
-        (k, (m, eqb-true (get_or box k 0) 0 (sym (ap is_zero (known k m)) ∙ h)))
+        (k, m, eqb-true (get_or box k 0) 0 (sym (ap is_zero (known k m)) ∙ h))
 
     by : (b : Bool) → has_no_points (extent_of all) iterators ≡ b → (b || list_all (λ (x : MapShape × ValueId). operand_stays_in (extent_of all) x.0 (t (x.1).0)) (zip maps ins)) ≡ true →
         NoPoints box ⊎ (list_all (λ (x : MapShape × ValueId). operand_stays_in (extent_of all) x.0 (t (x.1).0)) (zip maps ins) ≡ true)
@@ -263,7 +269,10 @@ module _ (t : Types) (u : State) (maps : List MapShape) (iterators : List Iter) 
   ds = dimensions_of s.last.results
 
   out_dims : (s.last.results ≡ map dimension ds) × (repeats ds ≡ false)
-  out_dims = let r = to_dimensions s.last out_tests.1 in (r.1, r.2)
+  out_dims =
+      let r = to_dimensions s.last out_tests.1 in
+      let e : ds ≡ r.0 = ap dimensions_of r.1 ∙ dimensions_back r.0 in
+      (r.1 ∙ ap (map dimension) (sym e), ap repeats e ∙ r.2)
 
   pub out_once : repeats ds ≡ false
   out_once = out_dims.1

@@ -52,10 +52,10 @@ plain_results dims (e ∷ es) h f =
 -- a box has a point along each dimension, or no points
 pub points_or_none : (box : List ℕ) → ((d : ℕ) → d < length box → 0 < get_or box d 0) ⊎ NoPoints box
 points_or_none [] = inl (λ d l. absurd (omega arith))
-points_or_none (zero ∷ box) = inr (0, (omega arith, refl))
+points_or_none (zero ∷ box) = inr (0, omega arith, refl)
 points_or_none (suc e ∷ box) = ⊎_elim
     (λ (f : (d : ℕ) → d < length box → 0 < get_or box d 0). inl (more f))
-    (λ (n : NoPoints box). inr (suc n.0, (omega (arith, n.1), n.2))) (points_or_none box)
+    (λ (n : NoPoints box). inr (suc n.0, omega (arith, n.1), n.2)) (points_or_none box)
   where
     more : ((d : ℕ) → d < length box → 0 < get_or box d 0) → (d : ℕ) → d < suc (length box) → 0 < get_or (suc e ∷ box) d 0
     more f zero l = omega arith

@@ -5,29 +5,31 @@ use Rattle.mlir_ir.specs.declared.tree.Iter.TheVariants.{Parallel}
 use Rattle.mlir_ir.specs.declared.tree.Op.{Op}
 use Rattle.mlir_ir.specs.declared.tree.Ty.{Ty}
 use Rattle.mlir_meaning.specs.Contexts.{Context, plug, Reaches}
-use Rattle.mlir_meaning.specs.Meaning.{initial_state}
-use Rattle.mlir_meaning.specs.States.{State}
+use Rattle.mlir_meaning.specs.Meaning.{initial_state, kind_meaning}
+use Rattle.mlir_meaning.specs.States.{State, made}
 use Rattle.mlir_verify.specs.Place.{type_among}
-use Rattle.region_laws.specs.Instances.{IsTypedInstance}
+use Rattle.region_laws.specs.Instances.{IsTypedInstance, result_of}
 use Rattle.region_laws.specs.Operands.{CutsOutput}
-use Rattle.verified_runs.specs.Forms.{Structured, kind_of}
-use Rattle.verified_runs.specs.Passes.{Scope, OpPasses, FuncPasses}
+use Rattle.verified_runs.specs.Forms.{Structured, structured_of}
+use Rattle.verified_runs.specs.Passes.{Scope, OpPasses, FuncPasses, scope_in}
 use Rattle.verified_runs.specs.Typed.{AreTyped, AreOf, types_of}
 use Rattle.tile_bridge.specs.Instances.{IsInstance, instance_of, is_parallel}
 
--- a generic at which no rule fails is an instance in each typed state: its operands fit its box
+-- a structured operation in a state: its generic is an instance, whose result it means
+abbrev pub IsInstanceOf : Op → Structured → State → Type 0
+IsInstanceOf o g u = IsInstance g u × (kind_meaning o.kind o.results u ≡ made o.results u (result_of (instance_of g u)))
+
+-- a structured operation at which no rule fails is so in each typed state: its operands fit its box
 abbrev pub OperandsFitBox : Type 0
 OperandsFitBox = (scope : Scope) (wanted : List Ty) (o : Op) (g : Structured) → OpPasses scope wanted o →
-    o.kind ≡ kind_of g →
-    (u : State) → AreTyped (type_among scope) u → IsInstance g u
+    structured_of (type_among scope) o.kind ≡ Some g → (u : State) → AreTyped (type_among scope) u → IsInstanceOf o g u
 
--- so it is in each state that a run of a verified function brings to it
+-- and so in each state in which a run of a verified function comes to it, at any place
 abbrev pub RunsReachInstances : Type 0
 RunsReachInstances = (f : FuncShape) (k : Context) (o : Op) (os : List Op) (g : Structured) (inputs : List TensorShape)
-    (u : State) →
-    FuncPasses f → f.body ≡ plug k (o ∷ os) → o.kind ≡ kind_of g → AreOf (types_of f.params) inputs →
-    Reaches k (o ∷ os) (initial_state f.params inputs) u →
-    IsInstance g u
+    (u : State) → FuncPasses f → f.body ≡ plug k (o ∷ os) →
+    structured_of (type_among (scope_in f.params k)) o.kind ≡ Some g → AreOf (types_of f.params) inputs →
+    Reaches k (o ∷ os) (initial_state f.params inputs) u → IsInstanceOf o g u
 
 -- an instance has what the laws of tiles ask of a generic
 abbrev pub InstancesAreTyped : Type 0

@@ -2,8 +2,8 @@ ghost use Rattle.tile_bridge.specs.Laws.{OperandsFitBox, RunsReachInstances, Ins
 
 // The functions here have no code: their contracts are the laws, over the definitions in `specs/`.
 
-/// Where no rule fails at a generic, its operands fit its box in each state that holds values of their types,
-/// and so it has what the laws of tiles, pads, packs and lanes ask.
+/// Where no rule fails at a structured operation, the operands of its generic fit its box in each state that
+/// holds values of their types, and so it has what the laws of tiles, pads, packs and lanes ask.
 pub fn operands_fit_their_box()
     ensures fits { OperandsFitBox }
     ensures typed { InstancesAreTyped }

@@ -1,5 +1,5 @@
 //! The laws that tie verified functions to the laws of tiles: in each state that a verified run reaches, a
-//! generic operation is an instance of which those laws speak.
+//! structured operation is an instance of a generic, of which those laws speak.
 //!
 //! The law functions, [`operands_fit_their_box`] and [`runs_reach_instances`], have no code: their contracts
 //! are the laws.

@@ -13,7 +13,7 @@ left_out named k xs h e =
     let x = get_or xs k (Fixed 0) in
     sym (ap (extents_from named k) (opened xs k x h (any_default xs k (Fixed 0) x h)) ∙ named_is_left_out named k x (drop (k + 1) xs) e)
 
-pub loop-k-preserved-then-is_among : goal.loop-k-preserved-then-is_among
-loop-k-preserved-then-is_among c =
-    ap (λ (l : List Extent). are_same_extents l c.loop-k.left.now) (left_out c.args.added.now c.loop-k.k c.args.out.now c.loop-k-test.true (sym c.is_among.ensures ∙ c.if-is_among.true))
+pub loop-k-preserved-then-is_added : goal.loop-k-preserved-then-is_added
+loop-k-preserved-then-is_added c =
+    ap (λ (l : List Extent). are_same_extents l c.loop-k.left.now) (left_out c.args.added.now c.loop-k.k c.args.out.now c.loop-k-test.true (sym c.is_added.ensures ∙ c.if-is_added.true))
     ∙ c.loop-k.invariant

@@ -1,7 +1,7 @@
 use Rattle.std.proofs.Common.{ℕ, Bool, true, List, [], ◌∷◌, ◌++◌, map, ap, sym, ◌∙◌, subst, Ok}
 use Rattle.mlir_ir.specs.declared.tree.ValueId.{ValueId}
 use Rattle.mlir_ir.specs.declared.tree.Ty.{Ty}
-use Rattle.mlir_verify.specs.Names.{arguments, repeats}
+use Rattle.mlir_verify.specs.Names.{arguments, redefines}
 use Rattle.mlir_verify.specs.Scope.{Adds}
 use Rattle.mlir_verify.proofs.Adding.{adds_then, front_repeats}
 use Rattle.mlir_verify.proofs.names.add_arguments.Goals as goal
@@ -21,7 +21,7 @@ pub returns-in-Ok-false : goal.returns-in-Ok-false
 returns-in-Ok-false c = λ known h.
     let one : List ℕ = c.in-For.var.0 ∷ [] in
     let a = subst (λ (b : Bool). Adds (Ok b) c.add.new.set one known) c.in-Ok-false.field-0-test (c.in-Ok-false.ensures known h) in
-    ap (λ x. repeats x known) (ap arguments c.in-For.is) ∙ front_repeats one (carried_numbers c.in-For.carried) known a
+    ap (λ x. redefines x known) (ap arguments c.in-For.is) ∙ front_repeats one (carried_numbers c.in-For.carried) known a
 
 abbrev value_numbers : List ValueId → List ℕ
 value_numbers vs = map (λ v. v.0) vs
@@ -40,5 +40,5 @@ returns-in-Ok-true-add_values c = λ known h.
 pub returns-in-Ok-false-add_values : goal.returns-in-Ok-false-add_values
 returns-in-Ok-false-add_values c = λ known h.
     let a0 = subst (λ (b : Bool). Adds (Ok b) c.add_values.new.set (value_numbers c.as_slice-in-Forall.result.now) known) c.in-Ok-false-add_values.field-0-test (c.in-Ok-false-add_values.ensures known h) in
-    ap (λ x. repeats x known) (ap arguments c.in-Forall.is)
-    ∙ front_repeats (value_numbers c.in-Forall.vars) (carried_numbers c.in-Forall.shared) known (ap (λ x. repeats (value_numbers x) known) (sym c.as_slice-in-Forall.ensures) ∙ a0)
+    ap (λ x. redefines x known) (ap arguments c.in-Forall.is)
+    ∙ front_repeats (value_numbers c.in-Forall.vars) (carried_numbers c.in-Forall.shared) known (ap (λ x. redefines (value_numbers x) known) (sym c.as_slice-in-Forall.ensures) ∙ a0)

@@ -1,5 +1,5 @@
 use Rattle.std.proofs.Common.{ℕ, Bool, true, List, ◌++◌, ap, sym, ◌∙◌, subst, Ok}
-use Rattle.mlir_verify.specs.Names.{arguments, numbers, repeats}
+use Rattle.mlir_verify.specs.Names.{arguments, numbers, redefines}
 use Rattle.mlir_verify.specs.Scope.{Adds}
 use Rattle.mlir_verify.proofs.Adding.{adds_then, front_repeats}
 use Rattle.mlir_verify.proofs.names.add_defined.Goals as goal
@@ -14,4 +14,4 @@ returns-in-Ok-true c = λ known h.
 pub returns-in-Ok-false : goal.returns-in-Ok-false
 returns-in-Ok-false c = λ known h.
     let a0 = subst (λ (b : Bool). Adds (Ok b) c.add_definitions.new.set (numbers c.as_slice.result.now) known) c.in-Ok-false.field-0-test (c.in-Ok-false.ensures known h) in
-    front_repeats (numbers c.args.op.now.results) (arguments c.args.op.now.kind) known (ap (λ x. repeats (numbers x) known) (sym c.as_slice.ensures) ∙ a0)
+    front_repeats (numbers c.args.op.now.results) (arguments c.args.op.now.kind) known (ap (λ x. redefines (numbers x) known) (sym c.as_slice.ensures) ∙ a0)

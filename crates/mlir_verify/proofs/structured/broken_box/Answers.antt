@@ -1,7 +1,6 @@
 use Rattle.std.proofs.Common.{◌≡◌, ℕ, List, ap, sym, ◌∙◌}
 use Rattle.mlir_verify.specs.Maps.{Axis, axes, extent_of}
 use Rattle.mlir_verify.specs.Scope.{types_in}
-use Rattle.mlir_verify.specs.Stages.{extent_in, is_in, broken_points}
 use Rattle.mlir_verify.proofs.Generics.{points_are}
 use Rattle.mlir_verify.proofs.structured.broken_box.Goals as goal
 

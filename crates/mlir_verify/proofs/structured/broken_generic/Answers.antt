@@ -1,4 +1,4 @@
-use Rattle.std.proofs.Common.{◌≡◌, Option, sym, ◌∙◌, subst}
+use Rattle.std.proofs.Common.{Option, subst}
 use Rattle.std.specs.Prelude.{ℕ}
 use Rattle.std.specs.BTreeSet.{BTreeSet}
 use Rattle.mlir_verify.specs.Scope.{types_in}

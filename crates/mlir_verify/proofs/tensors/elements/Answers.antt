@@ -1,4 +1,4 @@
-use Rattle.std.proofs.Common.{◌≡◌, ◌*◌, ◌+◌, ◌^◌, ◌-◌, ◌≤◌, ◌<◌, ℕ, List, length, get_or, min, drop, arith, ap, sym, ◌∙◌}
+use Rattle.std.proofs.Common.{◌≡◌, ◌*◌, ◌+◌, ◌≤◌, ◌<◌, ℕ, List, length, get_or, min, drop, arith, ap, sym, ◌∙◌}
 use Rattle.std.proofs.Math.Nat.{mul_assoc}
 use Rattle.std.proofs.lemmas.List.{drop_all}
 use Rattle.affine_maps.proofs.Listed.{any_default}

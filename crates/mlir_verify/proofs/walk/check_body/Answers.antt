@@ -1,4 +1,4 @@
-use Rattle.std.proofs.Common.{◌≡◌, ◌+◌, List, [], ◌∷◌, ◌++◌, drop, take, Option, ap, sym, ◌∙◌, subst, arith}
+use Rattle.std.proofs.Common.{◌≡◌, ◌+◌, ◌<◌, length, lt-ltb, List, [], ◌∷◌, ◌++◌, drop, take, Option, ap, sym, ◌∙◌, subst, arith}
 use Rattle.std.proofs.lemmas.List.{drop_all, take_all}
 use Rattle.mlir_ir.specs.Shape.{FuncShape}
 use Rattle.mlir_ir.specs.declared.tree.Op.{Op}
@@ -44,4 +44,5 @@ returns c = λ before s.
       sym (i.1 ∙ ap (λ (x : List Op). first_broken_of (places_of x [] before c.args.func.now)) b)
           ∙ ap (λ (x : List Op). first_broken_of (places_of x (take k os) before c.args.func.now)) d,
       func_ends c.loop-k.seen c.loop-k.scope before c.args.func.now (take k os) (take_all k os (omega arith) ∙ b) i.0,
+      lt-ltb 0 (length c.args.func.now.body) (subst (λ (x : FuncShape). 0 < length x.body) c.func.view_is c.func.invariant),
     )

@@ -6,7 +6,7 @@ use Rattle.mlir_ir.specs.declared.tree.Ty.{Ty}
 use Rattle.mlir_ir.specs.declared.tree.ValueId.{ValueId}
 use Rattle.mlir_verify.specs.declared.rule.Rule.TheVariants.{V1}
 use Rattle.mlir_verify.specs.Place.{type_among}
-use Rattle.mlir_verify.specs.Names.{defined_in, numbers, repeats}
+use Rattle.mlir_verify.specs.Names.{defined_in, numbers, redefines}
 use Rattle.mlir_verify.specs.Scope.{Adds, types_in}
 use Rattle.mlir_verify.proofs.Checking.{params_fail, func_stands}
 use Rattle.mlir_verify.proofs.walk.enter_func.Goals as goal
@@ -17,7 +17,7 @@ returns-in-Ok-false c = λ before s n k.
     let b : c.as_slice-in-Ok-false.result.now ≡ f.body = c.as_slice-in-Ok-false.ensures ∙ ap (λ (x : FuncShape). x.body) c.func.view_is in
     let ps : c.as_slice.result.now ≡ f.params = c.as_slice.ensures ∙ ap (λ (x : FuncShape). x.params) c.func.view_is in
     let a0 = subst (λ (b : Bool). Adds (Ok b) c.add_definitions.new.set (numbers c.as_slice.result.now) (defined_in before)) c.in-Ok-false.field-0-test (c.in-Ok-false.ensures (defined_in before) s.values) in
-    let r : repeats (numbers f.params) (defined_in before) ≡ true = ap (λ (x : List (ValueId × Ty)). repeats (numbers x) (defined_in before)) (sym ps) ∙ a0 in
+    let r : redefines (numbers f.params) (defined_in before) ≡ true = ap (λ (x : List (ValueId × Ty)). redefines (numbers x) (defined_in before)) (sym ps) ∙ a0 in
     let o = c.index-as_slice-0.result in
     let e : o ≡ get_or f.body 0 o = c.index-as_slice-0.is ∙ ap (λ (x : List Op). get_or x 0 o) b in
     let l : 0 < length f.body = subst (λ (x : FuncShape). 0 < length x.body) c.func.view_is c.func.invariant in

@@ -1,0 +1,14 @@
+pub mod Generalized
+pub mod Listed
+pub mod Turning
+pub mod Folding
+pub mod TurnedMaps
+pub mod TurnedPayloads
+pub mod TurnedResults
+pub mod Swapping
+pub mod Chosen
+pub mod KeptOrder
+pub mod OutputMaps
+pub mod Interchanged
+pub mod Rules
+pub mod Trial

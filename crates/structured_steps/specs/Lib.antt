@@ -1,0 +1,4 @@
+pub mod Generalize
+pub mod Interchange
+pub mod Steps
+pub mod Laws
