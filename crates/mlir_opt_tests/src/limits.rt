@@ -67,7 +67,7 @@ outs(%a : tensor<i8>) { ^bb0(%x: i8): |%s~ = arith.constant 1 : i16\n|linalg.yie
         let text = repeated(alloc, most, template)?;
         let found = answer(alloc, "", text.as_str(), &[], 1)?;
         assert!(rt; !found.starts_with("error: limit"), "{word}: {found}");
-        let text = repeated(alloc, most + 1, template)?;
+        let text = repeated(alloc, most.saturating_add(1), template)?;
         let found = answer(alloc, "", text.as_str(), &[], 1)?;
         let line = format!(in alloc; "error: limit {word}\n")?;
         assert!(rt; found.as_str() == line.as_str(), "{word}: {found}");
