@@ -15,3 +15,5 @@ mod refused;
 mod scripts;
 #[cfg(test)]
 mod streams;
+#[cfg(test)]
+mod verified;
