@@ -1,5 +1,5 @@
 -- What a search lists, by what its sets hold.
-use Rattle.std.proofs.Common.{◌≡◌, ℕ, Bool, true, List, ◌++◌, map, Option, Some, None, Result, Ok, Err, ◌∙◌}
+use Rattle.std.proofs.Common.{◌≡◌, ℕ, true, List, ◌++◌, map, Some, None, Result, Ok, Err, ◌∙◌}
 use Rattle.std.specs.Prelude.{IfOk}
 use Rattle.mlir_base.specs.declared.memory.Memory.{Memory}
 use Rattle.mlir_ir.specs.Shape.{FuncShape}

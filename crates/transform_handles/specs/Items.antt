@@ -1,6 +1,6 @@
 -- The functions and operations of a module, each with what it stands inside, and those that a step matches
 -- (Transform manual, "transform.structured.match"; here strictly inside the targets).
-use Rattle.std.specs.Prelude.{ℕ, ◌+◌, suc, ◌&&◌, Bool, true, List, [], ◌∷◌, ◌++◌, map, filter}
+use Rattle.std.specs.Prelude.{ℕ, ◌+◌, ◌&&◌, Bool, true, List, [], ◌∷◌, ◌++◌, map, filter}
 use Rattle.std.specs.List.{list_any}
 use Rattle.mlir_ir.specs.Shape.{FuncShape}
 use Rattle.mlir_ir.specs.declared.tree.Op.{Op}

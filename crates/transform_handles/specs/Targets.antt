@@ -1,5 +1,5 @@
 -- What a handle names (Transform manual, "Transform Dialect": a handle stands for a list of payload operations), and sets of it.
-use Rattle.std.specs.Prelude.{◌≡◌, ℕ, ◌==◌, Bool, true, false, List}
+use Rattle.std.specs.Prelude.{◌≡◌, ◌==◌, Bool, true, false, List}
 use Rattle.std.specs.BTreeSet as sorted
 use Rattle.std.specs.List.{list_any}
 use Rattle.std.specs.Ordering.{nat_cmp}

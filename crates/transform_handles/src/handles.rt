@@ -122,7 +122,8 @@ impl Handles {
         }
     }
 
-    /// The handles after a step on a module that consumed these targets and defines these handles. A refusal leaves them as they were.
+    /// The handles after a step on a module that consumed these targets and defines these handles. A refusal leaves
+    /// them as they were.
     pub fn consume(
         &mut self,
         alloc: Global,

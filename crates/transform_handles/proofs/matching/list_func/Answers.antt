@@ -1,4 +1,4 @@
-use Rattle.std.proofs.Common.{◌≡◌, [], ◌∷◌, ◌∙◌, ap, List, subst}
+use Rattle.std.proofs.Common.{[], ◌∷◌, ◌∙◌, ap, List, subst}
 use Rattle.std.specs.Prelude.{◌||◌}
 use Rattle.mlir_ir.specs.declared.tree.Op.{Op}
 use Rattle.mlir_ir.specs.Shape.{FuncShape}

@@ -1,4 +1,4 @@
-use Rattle.std.proofs.Common.{◌≡◌, List, ◌++◌, drop}
+use Rattle.std.proofs.Common.{◌≡◌, ◌++◌, drop}
 use Rattle.transform_handles.specs.Items.{items_from, picked}
 use Rattle.transform_handles.specs.Matching.{wants}
 use Rattle.transform_handles.proofs.matching.list_funcs.Given as goal

@@ -1,4 +1,4 @@
-use Rattle.std.proofs.Common.{◌≡◌, take}
+use Rattle.std.proofs.Common.{take}
 use Rattle.transform_handles.specs.Names.{HoldsNames}
 use Rattle.transform_handles.proofs.name_set.NameSet.of.Given as goal
 

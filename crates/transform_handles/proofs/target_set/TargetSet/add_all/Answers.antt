@@ -1,4 +1,4 @@
-use Rattle.std.proofs.Common.{◌≡◌, ◌∙◌, ap, arith}
+use Rattle.std.proofs.Common.{◌∙◌, ap, arith}
 use Rattle.std.proofs.lemmas.Grind.{common_steps}
 use Rattle.transform_handles.specs.Targets.{is_one_of}
 use Rattle.transform_handles.proofs.target_set.TargetSet.add_all.Goals as goal

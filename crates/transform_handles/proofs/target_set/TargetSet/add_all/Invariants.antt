@@ -1,4 +1,4 @@
-use Rattle.std.proofs.Common.{◌≡◌, List, ◌++◌, take}
+use Rattle.std.proofs.Common.{List, ◌++◌, take}
 use Rattle.transform_handles.specs.Targets.{Holds}
 use Rattle.transform_handles.specs.declared.target.Target.{Target}
 use Rattle.transform_handles.proofs.target_set.TargetSet.add_all.Given as goal
