@@ -1,0 +1,5 @@
+pub mod Forming
+pub mod Capturing
+pub mod Held
+pub mod Pairing
+pub mod Stated
