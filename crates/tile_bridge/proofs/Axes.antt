@@ -1,5 +1,5 @@
 -- What the verifier knows of the extents of dimensions, and what the operands have in a state.
-use Rattle.std.proofs.Common.{◌≡◌, ℕ, zero, suc, ◌<◌, ◌==◌, ◌&&◌, Bool, true, false, ℤ, pos, negsuc, List, [], ◌∷◌, ◌++◌, map, length, get_or, Option, Some, None, refl, ap, sym, subst, ◌∙◌, arith, eqb-true}
+use Rattle.std.proofs.Common.{◌≡◌, ℕ, ◌==◌, Bool, true, false, ℤ, pos, negsuc, List, [], ◌∷◌, ◌++◌, Option, Some, None, refl, ap, sym, subst, ◌∙◌, eqb-true}
 use Rattle.std.specs.Prelude.{is_some, zip, flat_map, unwrap_or, if◌then◌else◌, ⊤}
 use Rattle.std.specs.List.{list_all, filter_map, cons_option}
 use Rattle.std.specs.Option.{option_map_or}
@@ -14,7 +14,7 @@ use Rattle.mlir_ir.specs.Count.{first}
 use Rattle.mlir_ir.specs.declared.tree.Extent.{Extent}
 use Rattle.mlir_ir.specs.declared.tree.Extent.TheVariants.{Fixed, Any}
 use Rattle.mlir_ir.specs.declared.tree.ValueId.{ValueId}
-use Rattle.mlir_meaning.specs.Grids.{Each, count_up}
+use Rattle.mlir_meaning.specs.Grids.{Each}
 use Rattle.mlir_meaning.specs.Points.{is_one, is_zero, lone_dimension, dimension_of, selects}
 use Rattle.mlir_meaning.specs.States.{State, grid_of}
 use Rattle.mlir_meaning.specs.Meaning.{values_in}
