@@ -1,5 +1,5 @@
 -- The laws. Each is the contract of a function in `src/laws.rt`.
-use Rattle.std.specs.Prelude.{◌≡◌, ℕ, List, length, true}
+use Rattle.std.specs.Prelude.{◌≡◌, ℕ, List, length, true, Ok, None}
 use Rattle.affine_maps.specs.Shape.{MapShape}
 use Rattle.payload_ops.specs.Payload.{IsPayload}
 use Rattle.mlir_ir.specs.Shape.{FuncShape, TensorShape}
@@ -14,6 +14,7 @@ use Rattle.pair_laws.specs.Pairs.{joint_of, fused_op, Stands, fused_func, Produc
 use Rattle.pair_laws.specs.Captures.{CapturedMeet}
 use Rattle.tile_bridge.specs.Instances.{IsInstance, instance_of}
 use Rattle.point_laws.specs.Orders.{is_order}
+use Rattle.pair_laws.specs.FuseAll.{first_pair, fuse_all, AllKnown}
 
 -- its payload is one
 abbrev pub FusedFits : Type 0
@@ -34,3 +35,11 @@ AllCapturedMeet = (p c : Structured) (u : State) → CapturedMeet p c u
 abbrev pub InstancesProduce : Type 0
 InstancesProduce = (g : Structured) (u : State) → IsInstance g u →
     is_order (instance_of g u).ds (length (instance_of g u).box) ≡ true → Produces g (instance_of g u).ds u
+
+-- no pair is left
+abbrev pub FuseAllEnds : Type 0
+FuseAllEnds = (f g : FuncShape) → fuse_all f ≡ Ok g → first_pair g ≡ None
+
+abbrev pub FuseAllKeepsMeaning : Type 0
+FuseAllKeepsMeaning = (f g : FuncShape) → AllKnown (length f.body) f → fuse_all f ≡ Ok g →
+    (inputs : List TensorShape) → AreOf (types_of f.params) inputs → meaning g inputs ≡ meaning f inputs

@@ -1,3 +1,4 @@
 pub mod Pairs
 pub mod Captures
+pub mod FuseAll
 pub mod Laws

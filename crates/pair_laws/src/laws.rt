@@ -1,4 +1,4 @@
-ghost use Rattle.pair_laws.specs.Laws.{AllCapturedMeet, FusedFits, InstancesProduce, PairKeepsMeaning};
+ghost use Rattle.pair_laws.specs.Laws.{AllCapturedMeet, FusedFits, InstancesProduce, PairKeepsMeaning, FuseAllEnds, FuseAllKeepsMeaning};
 
 // The functions here have no code: their contracts are the laws, over the definitions in `specs/`.
 
@@ -14,4 +14,10 @@ pub fn fused_operations_are_formed()
 /// Fusing a pair keeps the meaning of its function.
 pub fn pairs_are_fused()
     ensures { PairKeepsMeaning }
+{}
+
+/// Fusing pairs until none is left ends, and keeps the meaning of the function.
+pub fn all_pairs_are_fused()
+    ensures ends { FuseAllEnds }
+    ensures keeps { FuseAllKeepsMeaning }
 {}
