@@ -4,4 +4,5 @@ pub mod Held
 pub mod Pairing
 pub mod Uses
 pub mod Found
+pub mod Boxes
 pub mod Stated

@@ -10,8 +10,6 @@ use Rattle.payload_ops.specs.declared.step.Arg.TheVariants.{Input, Out, Step}
 use Rattle.payload_ops.specs.declared.step.PayloadStep.{PayloadStep}
 use Rattle.mlir_ir.specs.Count.{first, uses_op}
 use Rattle.mlir_ir.specs.Shape.{FuncShape}
-use Rattle.mlir_ir.specs.declared.tree.Iter.{Iter}
-use Rattle.mlir_ir.specs.declared.tree.Iter.TheVariants.{Parallel, Reduction}
 use Rattle.mlir_ir.specs.declared.tree.Op.{Op}
 use Rattle.mlir_ir.specs.declared.tree.OpId.{OpId}
 use Rattle.mlir_ir.specs.declared.tree.OpKind.{OpKind, Generic}

@@ -1,5 +1,5 @@
 -- The laws. Each is the contract of a function in `src/laws.rt`.
-use Rattle.std.specs.Prelude.{◌≡◌, ℕ, List, length, true, Ok, None}
+use Rattle.std.specs.Prelude.{◌≡◌, ℕ, List, length, true, Ok, None, ◌<◌}
 use Rattle.affine_maps.specs.Shape.{MapShape}
 use Rattle.payload_ops.specs.Payload.{IsPayload}
 use Rattle.mlir_ir.specs.Shape.{FuncShape, TensorShape}
@@ -12,9 +12,21 @@ use Rattle.fuse_laws.specs.Joined.{Fit}
 use Rattle.mlir_base.specs.declared.types.ElemTy.TheVariants.{Int}
 use Rattle.pair_laws.specs.Pairs.{joint_of, fused_op, Stands, fused_func, Produces}
 use Rattle.pair_laws.specs.Captures.{CapturedMeet}
-use Rattle.tile_bridge.specs.Instances.{IsInstance, instance_of}
+use Rattle.tile_bridge.specs.Instances.{IsInstance, instance_of, HasExtents}
 use Rattle.point_laws.specs.Orders.{is_order}
-use Rattle.pair_laws.specs.FuseAll.{first_pair, fuse_all, AllKnown}
+use Rattle.pair_laws.specs.FuseAll.{fits, first_pair, fuse_all, AllKnown}
+use Rattle.std.specs.Prelude.{slice_index_or, Some, ◌++◌, ◌∷◌, []}
+use Rattle.mlir_meaning.specs.Meaning.{values_in}
+use Rattle.mlir_meaning.specs.States.{grid_of}
+use Rattle.region_laws.specs.Operands.{HasBox, reach}
+use Rattle.verified_runs.specs.Typed.{IsSized}
+use Rattle.affine_maps.specs.Shape.{MapShape}
+use Rattle.mlir_ir.specs.declared.tree.ValueId.{ValueId}
+use Rattle.mlir_ir.specs.declared.tree.Extent.TheVariants.{Fixed}
+use Rattle.mlir_verify.specs.Maps.{axes, extent_of}
+use Rattle.mlir_verify.specs.Tensors.{extents_of}
+use Rattle.mlir_verify.specs.Place.{Types}
+use Rattle.mlir_meaning.specs.Grids.{Each}
 
 -- its payload is one
 abbrev pub FusedFits : Type 0
@@ -40,6 +52,16 @@ InstancesProduce = (g : Structured) (u : State) → IsInstance g u →
 abbrev pub FuseAllEnds : Type 0
 FuseAllEnds = (f g : FuncShape) → fuse_all f ≡ Ok g → first_pair g ≡ None
 
+-- and the function means what it meant, where each function on the way is known
 abbrev pub FuseAllKeepsMeaning : Type 0
 FuseAllKeepsMeaning = (f g : FuncShape) → AllKnown (length f.body) f → fuse_all f ≡ Ok g →
     (inputs : List TensorShape) → AreOf (types_of f.params) inputs → meaning g inputs ≡ meaning f inputs
+
+-- the test on types says that in each state the fused generic has the box of the consumer, whose extents its own axes
+-- give
+abbrev pub FitsKeepsBox : Type 0
+FitsKeepsBox = (t : Types) (u : State) (c g : Structured) (ms : List MapShape) (o : MapShape) (box : List ℕ) →
+    g.maps ≡ ms ++ o ∷ [] → length ms ≡ length g.ins → length g.iterators ≡ length box →
+    Each (HasExtents t u) (g.ins ++ g.outs ∷ []) →
+    ((d : ℕ) → d < length box → extent_of (axes t c.maps c.ins c.outs) d ≡ Some (Fixed (slice_index_or box d 0))) →
+    fits t c g ≡ true → HasBox box g.maps (values_in u.values (g.ins ++ g.outs ∷ []))

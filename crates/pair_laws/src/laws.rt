@@ -1,4 +1,4 @@
-ghost use Rattle.pair_laws.specs.Laws.{AllCapturedMeet, FusedFits, InstancesProduce, PairKeepsMeaning, FuseAllEnds, FuseAllKeepsMeaning};
+ghost use Rattle.pair_laws.specs.Laws.{AllCapturedMeet, FusedFits, InstancesProduce, PairKeepsMeaning, FuseAllEnds, FuseAllKeepsMeaning, FitsKeepsBox};
 
 // The functions here have no code: their contracts are the laws, over the definitions in `specs/`.
 
@@ -16,8 +16,9 @@ pub fn pairs_are_fused()
     ensures { PairKeepsMeaning }
 {}
 
-/// Fusing pairs until none is left ends, and keeps the meaning of the function.
+/// Fusing pairs until none is left ends, and keeps the meaning of the function. The test on types keeps the box.
 pub fn all_pairs_are_fused()
+    ensures box_of { FitsKeepsBox }
     ensures ends { FuseAllEnds }
     ensures keeps { FuseAllKeepsMeaning }
 {}

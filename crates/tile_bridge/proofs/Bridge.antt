@@ -30,8 +30,7 @@ use Rattle.mlir_verify.specs.Extents.{breaks_extents, keeps_extents}
 use Rattle.mlir_verify.specs.Windows.{breaks_windows, inputs_stay_in}
 use Rattle.verified_runs.specs.Forms.{Structured, kind_of}
 use Rattle.verified_runs.specs.Typed.{AreTyped, HoldsIn, IsSized}
-use Rattle.tile_bridge.specs.Instances.{IsInstance, instance_of, is_parallel}
-use Rattle.tile_bridge.proofs.Axes.{HasExtents}
+use Rattle.tile_bridge.specs.Instances.{IsInstance, instance_of, is_parallel, HasExtents}
 use Rattle.tile_bridge.proofs.Fitting.{Passes, enumerated, inputs_fit, out_once, out_ds, out_below, out_extents, maps_are, all_there, box_rank, front_is}
 use Rattle.region_laws.specs.Operands.{AllFit, IsThere}
 use Rattle.point_laws.specs.Boxes.{picks}

@@ -30,10 +30,11 @@ use Rattle.mlir_verify.specs.Windows.{operand_stays_in, is_zero, has_no_points, 
 use Rattle.point_laws.specs.Boxes.{NoPoints, picks}
 use Rattle.point_laws.proofs.Tables.{tabled_at, tabled_length}
 use Rattle.region_laws.specs.Operands.{AxesFit, AllFit, IsPlain, IsThere, ReadsAxes, maps_of}
-use Rattle.tile_bridge.proofs.Axes.{IsSize, HasExtents, axes_of, operands_sizes, known_is}
+use Rattle.tile_bridge.proofs.Axes.{IsSize, axes_of, operands_sizes, known_is}
 use Rattle.tile_bridge.proofs.Reading.{Stays, plain_results, reads_axes}
 use Rattle.verified_runs.specs.Typed.{IsSized}
 use Rattle.affine_maps.specs.Permutation as affine
+use Rattle.tile_bridge.specs.Instances.{HasExtents}
 
 -- THE LAST MAP
 pub record Split (maps : List MapShape) (n : ℕ) : Type 0 where

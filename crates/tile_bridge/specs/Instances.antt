@@ -20,6 +20,13 @@ use Rattle.region_laws.specs.Instances.{Instance, FitsItsBox, result_of}
 use Rattle.region_laws.specs.Operands.{maps_of}
 use Rattle.verified_runs.specs.Forms.{Structured, kind_of}
 use Rattle.verified_runs.specs.Asks.{HaveElements}
+use Rattle.mlir_verify.specs.Place.{Types}
+use Rattle.mlir_verify.specs.Tensors.{extents_of}
+use Rattle.verified_runs.specs.Typed.{IsSized}
+
+-- a value has the extents of its type
+abbrev pub HasExtents : Types → State → ValueId → Type 0
+HasExtents t u v = IsSized (extents_of (t v.0)) (grid_of (u.values v.0)).extents
 
 -- the last map is the output's
 abbrev pub input_maps : Structured → List MapShape
