@@ -1,5 +1,5 @@
 -- What the verifier knows of the extents of dimensions, and what the operands have in a state.
-use Rattle.std.proofs.Common.{◌≡◌, ℕ, zero, suc, ◌<◌, ◌==◌, ◌&&◌, Bool, true, false, ℤ, pos, negsuc, List, [], ◌∷◌, ◌++◌, map, length, get_or, Option, Some, None, refl, ap, sym, subst, ◌∙◌, arith, eqb-true}
+use Rattle.std.proofs.Common.{◌≡◌, ℕ, ◌==◌, Bool, true, false, ℤ, pos, negsuc, List, [], ◌∷◌, ◌++◌, Option, Some, None, refl, ap, sym, subst, ◌∙◌, eqb-true}
 use Rattle.std.specs.Prelude.{is_some, zip, flat_map, unwrap_or, if◌then◌else◌, ⊤}
 use Rattle.std.specs.List.{list_all, filter_map, cons_option}
 use Rattle.std.specs.Option.{option_map_or}
@@ -14,7 +14,7 @@ use Rattle.mlir_ir.specs.Count.{first}
 use Rattle.mlir_ir.specs.declared.tree.Extent.{Extent}
 use Rattle.mlir_ir.specs.declared.tree.Extent.TheVariants.{Fixed, Any}
 use Rattle.mlir_ir.specs.declared.tree.ValueId.{ValueId}
-use Rattle.mlir_meaning.specs.Grids.{Each, count_up}
+use Rattle.mlir_meaning.specs.Grids.{Each}
 use Rattle.mlir_meaning.specs.Points.{is_one, is_zero, lone_dimension, dimension_of, selects}
 use Rattle.mlir_meaning.specs.States.{State, grid_of}
 use Rattle.mlir_meaning.specs.Meaning.{values_in}
@@ -25,6 +25,7 @@ use Rattle.mlir_verify.specs.Maps.{Axis, axis, operand_axes, extent_of}
 use Rattle.mlir_verify.specs.Extents.{is_same_extent, has_extent, axes_agree}
 use Rattle.point_laws.proofs.Lists.{both_ways}
 use Rattle.verified_runs.specs.Typed.{IsSized}
+use Rattle.tile_bridge.specs.Instances.{HasExtents}
 
 -- ONE DEFINITION OF A LONE DIMENSION FOR THE OTHER
 eq_one : (z : ℤ) → int_eq z (pos 1) ≡ is_one z
@@ -54,7 +55,7 @@ axis_none e x q = λ j. elim (q j) as (λ _. Option Axis) [ None ↦ None | Some
 pub axis_some : (e : Expr) (x : Extent) (k : ℕ) → affine.dimension_of e ≡ Some k → axis (e, x) ≡ Some (k, x)
 axis_some e x k q = λ j. elim (q j) as (λ _. Option Axis) [ None ↦ None | Some d ↦ Some (d, x) ]
 
-selects_is : (d : ℕ) (e : Expr) → selects d e ≡ option_map_or (λ k. k == d) (affine.dimension_of e) false
+pub selects_is : (d : ℕ) (e : Expr) → selects d e ≡ option_map_or (λ k. k == d) (affine.dimension_of e) false
 selects_is d e = λ j. option_map_or (λ k. k == d) (sym (dimension_same e) j) false
 
 -- SIZES OF EXTENTS
@@ -116,10 +117,6 @@ operand_sizes d (e ∷ es) (x ∷ xs) [] s = absurd (short x xs s)
 -- the axes of operands
 abbrev pub axes_of : Types → List MapShape → List ValueId → List Axis
 axes_of t ms vs = flat_map (λ (x : MapShape × ValueId). operand_axes x.0 (t (x.1).0)) (zip ms vs)
-
--- a value has the extents of its type
-abbrev pub HasExtents : Types → State → ValueId → Type 0
-HasExtents t u v = IsSized (extents_of (t v.0)) (grid_of (u.values v.0)).extents
 
 pub operands_sizes : (t : Types) (u : State) (d : ℕ) (ms : List MapShape) (vs : List ValueId) → Each (HasExtents t u) vs →
     IsSize (extent_of (axes_of t ms vs) d) (operand_extent d ms (values_in u.values vs))

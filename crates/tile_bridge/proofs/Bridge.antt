@@ -1,22 +1,20 @@
 -- A generic operation at which no rule fails is an instance in each typed state.
-use Rattle.std.proofs.Common.{◌≡◌, ℕ, suc, ◌+◌, ◌-◌, ◌<◌, ◌^◌, ◌==◌, ◌&&◌, ◌||◌, not, Bool, true, false, List, [], ◌∷◌, ◌++◌, length, take, get_or, Option, Some, None, refl, ap, sym, subst, ◌∙◌, arith, eqb-true}
-use Rattle.std.specs.Prelude.{is_some, zip, ⊤}
-use Rattle.std.specs.List.{list_all, list_any, enumerate_from}
+use Rattle.std.proofs.Common.{◌≡◌, ℕ, suc, ◌+◌, ◌-◌, ◌<◌, ◌^◌, ◌==◌, not, Bool, true, false, List, [], ◌∷◌, ◌++◌, length, get_or, Option, Some, None, refl, ap, sym, subst, ◌∙◌, arith, eqb-true}
+use Rattle.std.specs.Prelude.{zip, ⊤}
+use Rattle.std.specs.List.{list_all}
 use Rattle.std.proofs.lemmas.Bool.{and_parts}
 use Rattle.affine_maps.specs.Shape.{MapShape}
 use Rattle.affine_maps.specs.Map.{IsMap, map_fits}
-use Rattle.payload_ops.specs.Shape.{PayloadShape}
 use Rattle.mlir_base.specs.Types.{bits_of}
 use Rattle.mlir_base.specs.declared.types.ElemTy.{ElemTy}
 use Rattle.mlir_base.specs.declared.types.ElemTy.TheVariants.{Int, Index}
 use Rattle.mlir_ir.specs.declared.tree.Iter.{Iter}
 use Rattle.mlir_ir.specs.declared.tree.Iter.TheVariants.{Parallel, Reduction}
-use Rattle.mlir_ir.specs.declared.tree.OpKind.{OpKind, Generic}
 use Rattle.mlir_ir.specs.declared.tree.Ty.{Ty}
 use Rattle.mlir_ir.specs.declared.tree.Ty.TheVariants.{Scalar, Tensor, Vector}
 use Rattle.mlir_ir.specs.declared.tree.ValueId.{ValueId}
 use Rattle.mlir_meaning.specs.Grids.{IsFull, Each}
-use Rattle.mlir_meaning.specs.Meaning.{kind_meaning, values_in, captured_in}
+use Rattle.mlir_meaning.specs.Meaning.{values_in, captured_in}
 use Rattle.mlir_meaning.specs.Points.{has}
 use Rattle.mlir_meaning.specs.States.{State, made, grid_of, width_of}
 use Rattle.mlir_meaning.specs.Structured.{generic_result, operand_extent}
@@ -30,15 +28,14 @@ use Rattle.mlir_verify.specs.Types.{is_input, is_typed}
 use Rattle.mlir_verify.specs.Maps.{breaks_maps, breaks_iterators, fit_operands, cover_dimensions, match_output, is_iterator, output_map, output_dimensions}
 use Rattle.mlir_verify.specs.Extents.{breaks_extents, keeps_extents}
 use Rattle.mlir_verify.specs.Windows.{breaks_windows, inputs_stay_in}
-use Rattle.region_laws.specs.Instances.{result_of}
 use Rattle.verified_runs.specs.Forms.{Structured, kind_of}
-use Rattle.verified_runs.specs.Typed.{AreCells, AreTyped, Holds, HoldsIn, IsSized}
-use Rattle.tile_bridge.specs.Instances.{IsInstance, instance_of, input_maps, is_parallel}
-use Rattle.tile_bridge.proofs.Axes.{HasExtents}
-use Rattle.tile_bridge.proofs.Fitting.{Passes, enumerated, inputs_fit, out_once, out_ds, out_below, out_extents, maps_are, all_there, box_rank, front_is, values_front, all_fit}
+use Rattle.verified_runs.specs.Typed.{AreTyped, HoldsIn, IsSized}
+use Rattle.tile_bridge.specs.Instances.{IsInstance, instance_of, is_parallel, HasExtents}
+use Rattle.tile_bridge.proofs.Fitting.{Passes, enumerated, inputs_fit, out_once, out_ds, out_below, out_extents, maps_are, all_there, box_rank, front_is}
 use Rattle.region_laws.specs.Operands.{AllFit, IsThere}
 use Rattle.point_laws.specs.Boxes.{picks}
 use Rattle.affine_maps.specs.Permutation.{repeats}
+use Rattle.verified_runs.proofs.Asked.{inputs_have}
 
 not_true : (b : Bool) → not b ≡ false → b ≡ true
 not_true true e = refl
@@ -153,6 +150,7 @@ module _ (t : Types) (c : Constants) (wanted : List Ty) (rs : List (ValueId × T
             (captured_in u.values g.captured) refl out.cells refl
             ∙ (λ j. made rs u (generic_result (same j) (box_rank t u g.maps g.iterators g.ins g.outs p j) (values_in u.values g.ins)
             (Cells (width_of (u.values g.outs.0)) (grid_of (u.values g.outs.0))) (captured_in u.values g.captured) g.payload));
+        inputs = inputs_have t c u.values typed g.ins g.payload.ins (eqb-true (length g.ins) (length g.payload.ins) operands.0) operands.1;
         full = out.full;
         width = out.width;
         below = out.below;

@@ -1,22 +1,21 @@
 -- A generic at which no rule fails fits its box in each state that holds values of its operands' types.
-use Rattle.std.proofs.Common.{◌≡◌, ℕ, zero, suc, ◌+◌, ◌-◌, ◌<◌, ◌^◌, ◌==◌, ◌&&◌, ◌||◌, not, Bool, true, false, List, [], ◌∷◌, ◌++◌, map, length, take, get_or, Option, Some, None, inl, inr, ⊎_elim, ◌⊎◌, refl, ap, sym, subst, ◌∙◌, arith, eqb-true, append_assoc}
-use Rattle.std.specs.Prelude.{is_some, zip, flat_map, slice_get, unwrap_or, if◌then◌else◌, ⊤}
+use Rattle.std.proofs.Common.{◌≡◌, ℕ, zero, suc, ◌+◌, ◌-◌, ◌<◌, ◌==◌, ◌&&◌, ◌||◌, Bool, true, false, List, [], ◌∷◌, ◌++◌, map, length, take, get_or, Option, Some, None, inl, inr, ⊎_elim, ◌⊎◌, refl, ap, sym, subst, ◌∙◌, arith, eqb-true, append_assoc}
+use Rattle.std.specs.Prelude.{is_some, zip, flat_map, slice_get, unwrap_or}
 use Rattle.std.specs.List.{list_all, list_any, enumerate_from}
 use Rattle.std.proofs.lemmas.Bool.{and_parts}
-use Rattle.std.proofs.lemmas.List.{append-nil, length-map}
-use Rattle.std.proofs.lemmas.Option.{same_Some}
+use Rattle.std.proofs.lemmas.List.{append-nil}
 use Rattle.affine_maps.specs.Shape.{MapShape}
-use Rattle.affine_maps.specs.Map.{IsMap, expr_fits, dimension}
+use Rattle.affine_maps.specs.Map.{IsMap, dimension}
 use Rattle.affine_maps.specs.Permutation.{dimensions_of, is_projected_permutation, repeats}
 use Rattle.affine_maps.specs.declared.map.Expr.{Expr}
 use Rattle.affine_maps.proofs.Permuting.{to_dimensions}
 use Rattle.mlir_ir.specs.declared.tree.Extent.{Extent}
-use Rattle.mlir_ir.specs.declared.tree.Extent.TheVariants.{Fixed, Any}
+use Rattle.mlir_ir.specs.declared.tree.Extent.TheVariants.{Fixed}
 use Rattle.mlir_ir.specs.declared.tree.Iter.{Iter}
 use Rattle.mlir_ir.specs.declared.tree.Iter.TheVariants.{Parallel}
 use Rattle.mlir_ir.specs.declared.tree.Ty.{Ty}
 use Rattle.mlir_ir.specs.declared.tree.ValueId.{ValueId}
-use Rattle.mlir_meaning.specs.Grids.{Each, count_up}
+use Rattle.mlir_meaning.specs.Grids.{Each}
 use Rattle.mlir_meaning.specs.Meaning.{values_in}
 use Rattle.mlir_meaning.specs.Points.{select_map}
 use Rattle.mlir_meaning.specs.States.{State, grid_of}
@@ -25,16 +24,17 @@ use Rattle.mlir_meaning.specs.declared.values.Datum.{Datum}
 use Rattle.mlir_meaning.specs.declared.values.Datum.TheVariants.{Number, Bits, Cells}
 use Rattle.mlir_verify.specs.Place.{Types}
 use Rattle.mlir_verify.specs.Tensors.{extents_of}
-use Rattle.mlir_verify.specs.Maps.{Axis, axis, operand_axes, output_axes, axes, extent_of, output_map, output_dimensions, on_output, fits_operand, is_not_negative}
+use Rattle.mlir_verify.specs.Maps.{Axis, operand_axes, output_axes, axes, extent_of, output_map, output_dimensions, on_output, fits_operand, is_not_negative}
 use Rattle.mlir_verify.specs.Extents.{has_extent, axes_agree}
 use Rattle.mlir_verify.specs.Windows.{operand_stays_in, is_zero, has_no_points, stays_in, is_below, greatest_value}
 use Rattle.point_laws.specs.Boxes.{NoPoints, picks}
 use Rattle.point_laws.proofs.Tables.{tabled_at, tabled_length}
 use Rattle.region_laws.specs.Operands.{AxesFit, AllFit, IsPlain, IsThere, ReadsAxes, maps_of}
-use Rattle.tile_bridge.proofs.Axes.{IsSize, HasExtents, axes_of, operands_sizes, known_is}
+use Rattle.tile_bridge.proofs.Axes.{IsSize, axes_of, operands_sizes, known_is}
 use Rattle.tile_bridge.proofs.Reading.{Stays, plain_results, reads_axes}
 use Rattle.verified_runs.specs.Typed.{IsSized}
 use Rattle.affine_maps.specs.Permutation as affine
+use Rattle.tile_bridge.specs.Instances.{HasExtents}
 
 -- THE LAST MAP
 pub record Split (maps : List MapShape) (n : ℕ) : Type 0 where

@@ -1,12 +1,10 @@
 -- The axes of an operand read inside its extents, by the rules on maps, extents and windows.
-use Rattle.std.proofs.Common.{◌≡◌, ℕ, zero, suc, ◌+◌, ◌-◌, ◌*◌, ◌<◌, ◌≤◌, ◌==◌, ◌&&◌, ◌||◌, Bool, true, false, ℤ, pos, negsuc, ◌+ℤ◌, ◌-ℤ◌, ◌*ℤ◌, List, [], ◌∷◌, length, get_or, Option, Some, None, inl, inr, ⊎_elim, ◌⊎◌, refl, ap, sym, subst, ◌∙◌, arith, eqb-true, ltb-true, leb-true}
-use Rattle.std.specs.Prelude.{is_some, zip, int_le, int_lt, nat_le, nat_lt, if◌then◌else◌}
+use Rattle.std.proofs.Common.{◌≡◌, ℕ, zero, suc, ◌+◌, ◌-◌, ◌*◌, ◌<◌, ◌&&◌, ◌||◌, Bool, true, false, ℤ, pos, negsuc, ◌+ℤ◌, ◌-ℤ◌, ◌*ℤ◌, List, [], ◌∷◌, length, get_or, Option, Some, None, inl, inr, ⊎_elim, ◌⊎◌, refl, ap, sym, subst, ◌∙◌, arith, eqb-true, ltb-true}
+use Rattle.std.specs.Prelude.{is_some, zip, int_le, nat_le, nat_lt}
 use Rattle.std.specs.List.{list_all, filter_map, cons_option}
-use Rattle.std.proofs.lemmas.Bool.{and_parts, cases_lt}
+use Rattle.std.proofs.lemmas.Bool.{and_parts}
 use Rattle.std.proofs.lemmas.Int.{ints}
-use Rattle.std.proofs.lemmas.Option.{none-some}
-use Rattle.affine_maps.specs.Shape.{MapShape}
-use Rattle.affine_maps.specs.Map.{terms_fit, expr_fits, map_fits, IsMap}
+use Rattle.affine_maps.specs.Map.{terms_fit, expr_fits}
 use Rattle.affine_maps.specs.Permutation as affine
 use Rattle.affine_maps.specs.Value.{weighted_sum}
 use Rattle.affine_maps.specs.declared.map.Expr.{Expr}
@@ -19,7 +17,7 @@ use Rattle.mlir_verify.specs.Maps.{Axis, axis, is_not_negative}
 use Rattle.mlir_verify.specs.Extents.{has_extent}
 use Rattle.mlir_verify.specs.Windows.{greatest, greatest_value, is_below, stays_in}
 use Rattle.point_laws.specs.Boxes.{NoPoints}
-use Rattle.region_laws.specs.Operands.{ArePlain, IsPlain, ReadsBy, ReadsAxis, ReadsAxes, reach}
+use Rattle.region_laws.specs.Operands.{ArePlain, IsPlain, ReadsBy, ReadsAxes, reach}
 use Rattle.region_laws.proofs.Lone.{lone_parts}
 use Rattle.verified_runs.specs.Typed.{IsSized}
 use Rattle.tile_bridge.proofs.Axes.{dimension_same, axis_none, axis_some, one_sized, short}

@@ -19,6 +19,14 @@ use Rattle.mlir_verify.specs.Maps.{output_map, output_dimensions}
 use Rattle.region_laws.specs.Instances.{Instance, FitsItsBox, result_of}
 use Rattle.region_laws.specs.Operands.{maps_of}
 use Rattle.verified_runs.specs.Forms.{Structured, kind_of}
+use Rattle.verified_runs.specs.Asks.{HaveElements}
+use Rattle.mlir_verify.specs.Place.{Types}
+use Rattle.mlir_verify.specs.Tensors.{extents_of}
+use Rattle.verified_runs.specs.Typed.{IsSized}
+
+-- a value has the extents of its type
+abbrev pub HasExtents : Types → State → ValueId → Type 0
+HasExtents t u v = IsSized (extents_of (t v.0)) (grid_of (u.values v.0)).extents
 
 -- the last map is the output's
 abbrev pub input_maps : Structured → List MapShape
@@ -40,14 +48,16 @@ abbrev pub is_parallel : Iter → Bool
 is_parallel Parallel = true
 is_parallel Reduction = false
 
--- WHAT A VERIFIED GENERIC IS IN A STATE: its operands fit its box, it means the instance's result, the output has a
--- cell for each point, each below 2^w, its payload is one, and its parallel dimensions are the output's
+-- WHAT A VERIFIED GENERIC IS IN A STATE: its operands fit its box; it means the instance's result; the inputs and the
+-- output are full, with elements of the payload's types; its payload is one; and its parallel dimensions are those of
+-- the output, each once
 pub record IsInstance (g : Structured) (u : State) : Type 0 where
   pub fits : FitsItsBox (instance_of g u)
   pub rank : length g.iterators ≡ length (instance_of g u).box
   pub maps : g.maps ≡ maps_of (input_maps g) (instance_of g u).box (instance_of g u).ds
   pub output : u.values g.outs.0 ≡ Cells (instance_of g u).width (instance_of g u).out
   pub means : (rs : List (ValueId × Ty)) → kind_meaning (kind_of g) rs u ≡ made rs u (result_of (instance_of g u))
+  pub inputs : HaveElements g.payload.ins (instance_of g u).ins
   pub full : IsFull (instance_of g u).out
   pub width : (instance_of g u).width ≡ bits_of g.payload.out
   pub below : Each (λ c. c < 2 ^ bits_of g.payload.out) (instance_of g u).out.cells

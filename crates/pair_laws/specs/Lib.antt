@@ -1,0 +1,4 @@
+pub mod Pairs
+pub mod Captures
+pub mod FuseAll
+pub mod Laws
