@@ -1,8 +1,10 @@
-//! Tests of what steps stand on, of what no clause says: that a module can be copied, and that handles can be
-//! defined, matched and consumed.
+//! Tests of what steps stand on, of what no clause says: that a module can be copied, that handles can be defined, matched
+//! and consumed, and that named operations have their generics.
 #![tactic(auto)]
 
 #[cfg(test)]
 mod copies;
+#[cfg(test)]
+mod forms;
 #[cfg(test)]
 mod handles;
