@@ -1,0 +1,20 @@
+//! What the transform steps share, and the first two of them.
+//!
+//! - `generalize` and `interchange` form a module with the step at one operation. The formed module verifies, so that a step
+//!   verifies nothing anew.
+//! - `StepError` tells why a step refuses, and `Made` which operations stand for its target.
+//!
+//! `specs/Answers.antt` says what a step answers, and `specs/Limits.antt` which limits it may pass. `structured_steps` has the rules
+//! and the modules that the two steps form.
+#![tactic(auto)]
+
+mod error;
+mod generalizing;
+mod interchanging;
+mod made;
+
+pub use error::StepError;
+pub use generalizing::generalize;
+pub use interchanging::interchange;
+pub use made::Made;
+pub use structured_steps::StepRule;
