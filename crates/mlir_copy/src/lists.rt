@@ -4,7 +4,8 @@ use mlir_base::{List, Memory};
 use mlir_ir::{Ty, ValueId};
 use std::alloc::Global;
 
-pub(crate) fn copy_list<T: Copy + Drop>(alloc: Global, items: &[T]) -> Result<List<T>, Memory>
+/// The same items in a list of its own.
+pub fn copy_list<T: Copy + Drop>(alloc: Global, items: &[T]) -> Result<List<T>, Memory>
     ensures { IfOk result (λ l. l ≡ items.now) }
 {
     let mut copy = List::new(alloc);
@@ -14,7 +15,8 @@ pub(crate) fn copy_list<T: Copy + Drop>(alloc: Global, items: &[T]) -> Result<Li
     Ok(copy)
 }
 
-pub(crate) fn copy_type(alloc: Global, ty: &Ty) -> Result<Ty, Memory>
+/// An equal type.
+pub fn copy_type(alloc: Global, ty: &Ty) -> Result<Ty, Memory>
     ensures { IfOk result (λ t. t ≡ ty.now) }
 {
     match ty {

@@ -48,7 +48,8 @@ pub(crate) fn copy_maps(alloc: Global, maps: &[AffineMap]) -> Result<List<Affine
     Ok(copies)
 }
 
-pub(crate) fn copy_step_op(alloc: Global, op: &StepOp) -> Result<StepOp, Memory>
+/// An equal operation of a payload.
+pub fn copy_step_op(alloc: Global, op: &StepOp) -> Result<StepOp, Memory>
     ensures { IfOk result (λ o. o ≡ op.now) }
 {
     match op {

@@ -1,7 +1,10 @@
-ghost use Rattle.std.specs.Prelude.{◌≡◌};
+ghost use Rattle.std.specs.Prelude.{◌≡◌, IfOk};
 ghost use Rattle.mlir_verify.specs.Rules.{IsVerified};
 
+use mlir_base::Memory;
+use mlir_copy::copy_module;
 use mlir_ir::Module;
+use std::alloc::Global;
 use std::marker::Model;
 
 /// A module in which no rule of the verifier fails.
@@ -26,11 +29,20 @@ impl Model for Checked {
 }
 
 impl Checked {
-    pub(crate) fn new(m: Module) -> Checked
+    /// A module in which no rule fails, as its maker knows; nothing is tested.
+    pub fn from_verified(m: Module) -> Checked
         requires { IsVerified m }
         ensures { result ≡ m }
     {
         Checked { module: m }
+    }
+
+    /// An equal module, with the same numbers.
+    pub fn copy(&self, alloc: Global) -> Result<Checked, Memory>
+        ensures { IfOk result (λ c. c ≡ self.now) }
+    {
+        let module = copy_module(alloc, &self.module)?;
+        Ok(Checked { module })
     }
 
     /// The module.

@@ -2,7 +2,8 @@
 //!
 //! - `verify` takes a module and answers it as `Checked`, or the first operation in tree order at which a rule fails,
 //!   with the lowest such rule there.
-//! - `Checked::module` lends the module, and `Checked::into_module` gives it back. The type keeps that no rule fails.
+//! - `Checked::module` lends the module, `Checked::copy` copies it, and `Checked::into_module` gives it back. The type keeps that no
+//!   rule fails. `Checked::from_verified` takes a module that is known to keep them.
 //!
 //! `specs/Rules.antt` says when a rule fails at a place of a module and which one `verify` names. `specs/Place.antt` says where
 //! an operation stands and what is in scope there, `specs/Tensors.antt` has the tests on types. A file each has the rules:

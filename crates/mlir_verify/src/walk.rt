@@ -195,7 +195,7 @@ pub fn verify(alloc: Global, m: Module) -> Result<Checked, Refused>
     ensures { AnswersVerify m result }
 {
     match check_funcs(alloc, m.funcs.as_slice()) {
-        Ok(()) => Ok(Checked::new(m)),
+        Ok(()) => Ok(Checked::from_verified(m)),
         Err(e) => Err(e),
     }
 }

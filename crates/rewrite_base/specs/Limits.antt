@@ -38,8 +38,12 @@ abbrev mutual
 abbrev pub has_long_payloads : List FuncShape → Bool
 has_long_payloads fs = list_any (λ (f : FuncShape). list_any (λ (o : Op). has_long_payload o.kind) f.body) fs
 
+-- the first limit that a formed module passes
+abbrev pub passed : List FuncShape → Option Which
+passed fs =
+    if has_many_operations fs then Some Operations
+    else (if is_deep fs then Some Depth else (if has_long_payloads fs then Some PayloadSteps else None))
+
 -- the first limit that a step passes which forms the second module from the first
 abbrev pub limit_of : Module → Module → Option Which
-limit_of m formed =
-    if has_large_numbers m.funcs || has_many_operations formed.funcs then Some Operations
-    else (if is_deep formed.funcs then Some Depth else (if has_long_payloads formed.funcs then Some PayloadSteps else None))
+limit_of m formed = if has_large_numbers m.funcs then Some Operations else passed formed.funcs

@@ -8,10 +8,18 @@
 //! and the modules that the two steps form.
 #![tactic(auto)]
 
+mod aim;
 mod error;
+mod exchange;
+mod forms;
 mod generalizing;
 mod interchanging;
+mod limits;
 mod made;
+mod orders;
+mod shape;
+mod turn;
+mod turning;
 
 pub use error::StepError;
 pub use generalizing::generalize;

@@ -1,0 +1,5 @@
+pub mod Ends
+pub mod Scopes
+pub mod Unique
+pub mod Formed
+pub mod Found

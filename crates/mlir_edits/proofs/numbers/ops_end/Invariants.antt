@@ -1,0 +1,6 @@
+use Rattle.std.proofs.Common.{◌≡◌, max, drop}
+use Rattle.verified_runs.specs.Fresh.{fresh_op}
+use Rattle.mlir_edits.proofs.numbers.ops_end.Given as goal
+
+abbrev pub invariant-loop-f : goal.invariant-loop-f
+invariant-loop-f l = max l.end (fresh_op (drop l.f-index l.m.funcs)) ≡ fresh_op l.m.funcs

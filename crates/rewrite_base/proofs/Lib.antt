@@ -1,0 +1,5 @@
+pub mod Trees
+pub mod Rules
+pub mod Verifies
+pub mod Fitting
+pub mod Aimed

@@ -1,0 +1,189 @@
+//! The steps `generalize` and `interchange` on small modules.
+
+use affine_maps::{AffineMap, Expr};
+use mlir_base::{ElemTy, List, Memory, Name, Width};
+use mlir_ir::{Extent, Func, Iter, Module, Op, OpId, OpKind, Ty, ValueId, find, uses};
+use mlir_verify::{Checked, verify};
+use payload_ops::{Arg, BinOp, Payload, PayloadStep, StepOp, payload};
+use rewrite_base::{Made, StepError, StepRule, generalize, interchange};
+use std::alloc::Global;
+
+fn tensor(alloc: Global, sizes: &[u32]) -> Result<Ty, Memory> {
+    let mut extents = List::new(alloc);
+    for size in sizes {
+        extents.push(Extent::Fixed(*size))?;
+    }
+    let elem = Width::new(32).ok_or(Memory)?;
+    Ok(Ty::Tensor { extents, elem })
+}
+
+fn one<T: Drop>(alloc: Global, item: T) -> Result<List<T>, Memory> {
+    let mut all = List::new(alloc);
+    all.push(item)?;
+    Ok(all)
+}
+
+/// A function whose first operation gives its result, of this type.
+fn module_of(
+    alloc: Global,
+    params: List<(ValueId, Ty)>,
+    sizes: &[u32],
+    kind: OpKind,
+) -> Result<Checked, Memory> {
+    let results = one(alloc, tensor(alloc, sizes)?)?;
+    let mut body = one(alloc, Op {
+        id: OpId(0),
+        results: one(alloc, (ValueId(9), tensor(alloc, sizes)?))?,
+        kind,
+    })?;
+    body.push(Op {
+        id: OpId(1),
+        results: List::new(alloc),
+        kind: OpKind::Return {
+            values: one(alloc, ValueId(9))?,
+        },
+    })?;
+    let name = Name::new(alloc, "f")?;
+    let mut funcs = List::new(alloc);
+    if body.as_slice().len() > 0 {
+        funcs.push(Func {
+            name,
+            params,
+            results,
+            body,
+        })?;
+    }
+    match verify(alloc, Module { funcs }) {
+        Ok(checked) => Ok(checked),
+        Err(_) => Err(Memory),
+    }
+}
+
+fn matmul(alloc: Global) -> Result<Checked, Memory> {
+    let mut params = one(alloc, (ValueId(0), tensor(alloc, &[5, 3])?))?;
+    params.push((ValueId(1), tensor(alloc, &[3, 7])?))?;
+    params.push((ValueId(2), tensor(alloc, &[5, 7])?))?;
+    let kind = OpKind::Matmul {
+        a: ValueId(0),
+        b: ValueId(1),
+        outs: ValueId(2),
+    };
+    module_of(alloc, params, &[5, 7], kind)
+}
+
+fn dimension(alloc: Global, d: u32) -> Result<Expr, Memory> {
+    Ok(Expr {
+        constant: 0,
+        terms: one(alloc, (d, 1))?,
+    })
+}
+
+/// Joins the output's element with the input.
+fn joining(alloc: Global, op: BinOp) -> Result<Payload, Memory> {
+    let elem = ElemTy::Int(Width::new(32).ok_or(Memory)?);
+    let steps = one(alloc, PayloadStep {
+        ty: elem,
+        op: StepOp::Binary(op, Arg::Out, Arg::Input(0)),
+    })?;
+    payload(one(alloc, elem)?, elem, steps, Arg::Step(0)).ok_or(Memory)
+}
+
+/// A reduction of a matrix to a scalar by this operation.
+fn reduction(alloc: Global, op: BinOp) -> Result<Checked, Memory> {
+    let mut params = one(alloc, (ValueId(0), tensor(alloc, &[2, 3])?))?;
+    params.push((ValueId(1), tensor(alloc, &[])?))?;
+    let mut results = one(alloc, dimension(alloc, 0)?)?;
+    results.push(dimension(alloc, 1)?)?;
+    let mut maps = one(alloc, AffineMap::new(2, results).ok_or(Memory)?)?;
+    maps.push(AffineMap::new(2, List::new(alloc)).ok_or(Memory)?)?;
+    let mut iterators = one(alloc, Iter::Reduction)?;
+    iterators.push(Iter::Reduction)?;
+    let kind = OpKind::Generic {
+        maps,
+        iterators,
+        ins: one(alloc, ValueId(0))?,
+        outs: ValueId(1),
+        captured: List::new(alloc),
+        payload: joining(alloc, op)?,
+    };
+    module_of(alloc, params, &[], kind)
+}
+
+/// What a step did: the number of the operation that stands for its target, or the rule that it breaks.
+fn outcome(result: &Result<(Checked, Made), StepError>) -> Option<(Option<u32>, Option<StepRule>)> {
+    match result {
+        Ok(formed) => match formed.1.ops.as_slice().first() {
+            Some(op) => Some((Some(op.0), None)),
+            None => None,
+        },
+        Err(StepError::Rule { rule, op: Some(_) }) => Some((None, Some(*rule))),
+        Err(_) => None,
+    }
+}
+
+fn generalized(alloc: Global, c: Checked, op: OpId) -> Result<(Checked, Made), StepError> {
+    if find(c.module(), op).is_none() {
+        return Err(StepError::Memory);
+    }
+    generalize(alloc, c, op)
+}
+
+fn interchanged(
+    alloc: Global,
+    c: Checked,
+    op: OpId,
+    order: &[u32],
+) -> Result<(Checked, Made), StepError> {
+    if find(c.module(), op).is_none() {
+        return Err(StepError::Memory);
+    }
+    interchange(alloc, c, op, order)
+}
+
+/// How many maps, iterators and steps the operation has, where it is a generic, and how often its value is used.
+fn counts(m: &Module, op: OpId, v: ValueId) -> Option<(usize, usize, usize, u32)> {
+    match find(m, op) {
+        Some(found) => match &found.kind {
+            OpKind::Generic {
+                maps,
+                iterators,
+                payload,
+                ..
+            } => Some((maps.len(), iterators.len(), payload.steps().len(), uses(m, v))),
+            _ => None,
+        },
+        None => None,
+    }
+}
+
+#[test]
+fn products_become_generics(rt: HostRuntime) -> Result<(), Memory> {
+    let alloc = rt.alloc();
+    let formed = generalized(alloc, matmul(alloc)?, OpId(0));
+    assert!(rt; outcome(&formed) == Some((Some(2), None)));
+    let (c, _) = formed.map_err(|_| Memory)?;
+    assert!(rt; counts(c.module(), OpId(2), ValueId(10)) == Some((3, 3, 2, 1)));
+    let again = generalized(alloc, c.copy(alloc)?, OpId(2));
+    assert!(rt; outcome(&again) == Some((Some(2), None)));
+    let turned = interchanged(alloc, c, OpId(2), &[2, 0, 1]);
+    assert!(rt; outcome(&turned) == Some((Some(3), None)));
+    Ok(())
+}
+
+#[test]
+fn steps_name_the_rule_that_they_break(rt: HostRuntime) -> Result<(), Memory> {
+    let alloc = rt.alloc();
+    let wrong = (None, Some(StepRule::WrongKind));
+    assert!(rt; outcome(&generalized(alloc, matmul(alloc)?, OpId(1))) == Some(wrong));
+    assert!(rt; outcome(&interchanged(alloc, matmul(alloc)?, OpId(0), &[0, 1, 2])) == Some(wrong));
+    let order = (None, Some(StepRule::Permutation));
+    let sum = reduction(alloc, BinOp::Addi)?;
+    assert!(rt; outcome(&interchanged(alloc, sum.copy(alloc)?, OpId(0), &[0, 0])) == Some(order));
+    assert!(rt; outcome(&interchanged(alloc, sum.copy(alloc)?, OpId(0), &[1])) == Some(order));
+    assert!(rt; outcome(&interchanged(alloc, sum, OpId(0), &[1, 0])) == Some((Some(2), None)));
+    let kept = (None, Some(StepRule::ReductionOrder));
+    let difference = reduction(alloc, BinOp::Subi)?;
+    assert!(rt; outcome(&interchanged(alloc, difference.copy(alloc)?, OpId(0), &[0, 1])) == Some((Some(2), None)));
+    assert!(rt; outcome(&interchanged(alloc, difference, OpId(0), &[1, 0])) == Some(kept));
+    Ok(())
+}
