@@ -26,10 +26,11 @@ counted k (Some n) = ap Some (let e : (k + 1) + n ≡ k + suc n = omega arith in
 
 pub position_is : (i : OpId) (os : List Op) (k : ℕ) → position_from k i os ≡ option_map (λ (n : ℕ). k + n) (position i os)
 position_is i [] k = refl
-position_is i (o ∷ os) k = by (o.id.0 == i.0) where
-  by : (b : Bool) → (if b then Some k else position_from (k + 1) i os) ≡ option_map (λ (n : ℕ). k + n) (if b then Some 0 else option_map suc (position i os))
-  by true = ap Some (let e : k ≡ k + 0 = omega arith in e)
-  by false = position_is i os (k + 1) ∙ counted k (position i os)
+position_is i (o ∷ os) k = by (o.id.0 == i.0) (position_is i os (k + 1)) where
+  by : (b : Bool) → position_from (k + 1) i os ≡ option_map (λ (n : ℕ). (k + 1) + n) (position i os) →
+      (if b then Some k else position_from (k + 1) i os) ≡ option_map (λ (n : ℕ). k + n) (if b then Some 0 else option_map suc (position i os))
+  by true r = ap Some (let e : k ≡ k + 0 = omega arith in e)
+  by false r = r ∙ counted k (position i os)
 
 plain : (r : Option ℕ) → option_map (λ (n : ℕ). 0 + n) r ≡ r
 plain None = refl
@@ -80,22 +81,22 @@ stepped_none (p ∷ os) (suc n) step scope o g h = ap (λ ps. p ∷ ps) (stepped
 pub edited_there : (i : OpId) (step : Step) (os : List Op) (scope : Scope) (n : ℕ) → position i os ≡ Some n → edited_body i step scope os ≡ stepped n step scope os
 unfolding edited_body
 edited_there i step [] scope n h = refl
-edited_there i step (o ∷ os) scope n h = by (o.id.0 == i.0) (position i os) refl h where
-  by : (b : Bool) (r : Option ℕ) → position i os ≡ r → (if b then Some 0 else option_map suc r) ≡ Some n →
+edited_there i step (o ∷ os) scope n h = by (o.id.0 == i.0) (position i os) refl (edited_there i step os (scope ++ o.results)) h where
+  by : (b : Bool) (r : Option ℕ) → position i os ≡ r → ((k : ℕ) → position i os ≡ Some k → edited_body i step (scope ++ o.results) os ≡ stepped k step (scope ++ o.results) os) → (if b then Some 0 else option_map suc r) ≡ Some n →
       (if b then placed (step scope o) o os else o ∷ edited_body i step (scope ++ o.results) os) ≡ stepped n step scope (o ∷ os)
-  by true r q e = ap (λ k. stepped k step scope (o ∷ os)) (same_Some 0 n e)
-  by false None q e = absurd cc
-  by false (Some k) q e = ap (λ ps. o ∷ ps) (edited_there i step os (scope ++ o.results) k q) ∙ ap (λ k. stepped k step scope (o ∷ os)) (same_Some (suc k) n e)
+  by true r q rec e = ap (λ k. stepped k step scope (o ∷ os)) (same_Some 0 n e)
+  by false None q rec e = absurd cc
+  by false (Some k) q rec e = ap (λ ps. o ∷ ps) (rec k q) ∙ ap (λ k. stepped k step scope (o ∷ os)) (same_Some (suc k) n e)
 
 pub edited_nowhere : (i : OpId) (step : Step) (os : List Op) (scope : Scope) → position i os ≡ None → edited_body i step scope os ≡ os
 unfolding edited_body
 edited_nowhere i step [] scope h = refl
-edited_nowhere i step (o ∷ os) scope h = by (o.id.0 == i.0) (position i os) refl h where
-  by : (b : Bool) (r : Option ℕ) → position i os ≡ r → (if b then Some 0 else option_map suc r) ≡ None →
+edited_nowhere i step (o ∷ os) scope h = by (o.id.0 == i.0) (position i os) refl (edited_nowhere i step os (scope ++ o.results)) h where
+  by : (b : Bool) (r : Option ℕ) → position i os ≡ r → (position i os ≡ None → edited_body i step (scope ++ o.results) os ≡ os) → (if b then Some 0 else option_map suc r) ≡ None →
       (if b then placed (step scope o) o os else o ∷ edited_body i step (scope ++ o.results) os) ≡ o ∷ os
-  by true r q e = absurd cc
-  by false None q e = ap (λ ps. o ∷ ps) (edited_nowhere i step os (scope ++ o.results) q)
-  by false (Some k) q e = absurd cc
+  by true r q rec e = absurd cc
+  by false None q rec e = ap (λ ps. o ∷ ps) (rec q)
+  by false (Some k) q rec e = absurd cc
 
 -- A STEP AT A PLACE
 abbrev pub func_of : FuncShape → List Op → FuncShape
@@ -119,14 +120,15 @@ later_nowhere i f fs known k new q =
 pub edited_among : (i : OpId) (step : Step) (fs : List FuncShape) (known : List ℕ) (q : ℕ × ℕ) → FuncsAreNew known fs → located i fs ≡ Some q →
     map (edited_func i step) fs ≡ stepped_among q.0 q.1 step fs
 edited_among i step [] known q new h = refl
-edited_among i step (f ∷ fs) known q new h = by (position i f.body) refl (located i fs) refl h where
-  by : (r : Option ℕ) → position i f.body ≡ r → (l : Option (ℕ × ℕ)) → located i fs ≡ l → located_by r l ≡ Some q → map (edited_func i step) (f ∷ fs) ≡ stepped_among q.0 q.1 step (f ∷ fs)
-  by (Some k) p l m e =
+edited_among i step (f ∷ fs) known q new h = by (position i f.body) refl (located i fs) refl (λ r. edited_among i step fs (known ++ ids f.body) r new.1) h where
+  by : (r : Option ℕ) → position i f.body ≡ r → (l : Option (ℕ × ℕ)) → located i fs ≡ l →
+      ((r : ℕ × ℕ) → located i fs ≡ Some r → map (edited_func i step) fs ≡ stepped_among r.0 r.1 step fs) → located_by r l ≡ Some q → map (edited_func i step) (f ∷ fs) ≡ stepped_among q.0 q.1 step (f ∷ fs)
+  by (Some k) p l m rec e =
       (λ j. func_of f (edited_there i step f.body f.params k p j) ∷ nowhere_all i step fs (later_nowhere i f fs known k new p) j)
       ∙ ap (λ (q : ℕ × ℕ). stepped_among q.0 q.1 step (f ∷ fs)) (same_Some (0, k) q e)
-  by None p None m e = absurd cc
-  by None p (Some r) m e =
-      (λ j. func_of f (edited_nowhere i step f.body f.params p j) ∷ edited_among i step fs (known ++ ids f.body) r new.1 m j)
+  by None p None m rec e = absurd cc
+  by None p (Some r) m rec e =
+      (λ j. func_of f (edited_nowhere i step f.body f.params p j) ∷ rec r m j)
       ∙ ap (λ (q : ℕ × ℕ). stepped_among q.0 q.1 step (f ∷ fs)) (same_Some (suc r.0, r.1) q e)
 
 pub among_some : (fs : List FuncShape) (n k : ℕ) (step : Step) (f : FuncShape) (o : Op) (e : Edit) → slice_get fs n ≡ Some f → slice_get f.body k ≡ Some o →

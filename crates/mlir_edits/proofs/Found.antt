@@ -43,11 +43,11 @@ op_in fs (Some q) = option_and_then (λ (f : FuncShape). slice_get f.body q.1) (
 
 in_range : (i : OpId) (os : List Op) (n : ℕ) → position i os ≡ Some n → (o : Op) × (slice_get os n ≡ Some o)
 in_range i [] n h = absurd cc
-in_range i (o ∷ os) n h = by (o.id.0 == i.0) (position i os) refl h where
-  by : (b : Bool) (r : Option ℕ) → position i os ≡ r → (if b then Some 0 else option_map suc r) ≡ Some n → (p : Op) × (slice_get (o ∷ os) n ≡ Some p)
-  by true r q e = (o, ap (λ k. slice_get (o ∷ os) k) (sym (same_Some 0 n e)))
-  by false None q e = absurd cc
-  by false (Some k) q e = let x = in_range i os k q in (x.0, ap (λ k. slice_get (o ∷ os) k) (sym (same_Some (suc k) n e)) ∙ x.1)
+in_range i (o ∷ os) n h = by (o.id.0 == i.0) (position i os) refl (in_range i os) h where
+  by : (b : Bool) (r : Option ℕ) → position i os ≡ r → ((k : ℕ) → position i os ≡ Some k → (p : Op) × (slice_get os k ≡ Some p)) → (if b then Some 0 else option_map suc r) ≡ Some n → (p : Op) × (slice_get (o ∷ os) n ≡ Some p)
+  by true r q rec e = (o, ap (λ k. slice_get (o ∷ os) k) (sym (same_Some 0 n e)))
+  by false None q rec e = absurd cc
+  by false (Some k) q rec e = let x = rec k q in (x.0, ap (λ k. slice_get (o ∷ os) k) (sym (same_Some (suc k) n e)) ∙ x.1)
 
 found_in_funcs : (i : OpId) (fs : List FuncShape) → Each FuncPasses fs → find_in i fs ≡ op_in fs (located i fs)
 found_in_funcs i [] h = refl
@@ -67,13 +67,15 @@ found_nowhere m i v h = found_in_funcs i m.funcs (verified_passes m v) ∙ ap (o
 pub found_there : (m : Module) (i : OpId) (p : Place) → IsVerified m → place_of i m.funcs ≡ Some p → find_in i m.funcs ≡ op_at p m.funcs
 found_there m i p v h = found_in_funcs i m.funcs (verified_passes m v) ∙ ap (op_in m.funcs) (located_at i m.funcs p h)
 
+there_in : (i : OpId) (fs : List FuncShape) (q : ℕ × ℕ) → located i fs ≡ Some q → (o : Op) × (op_in fs (Some q) ≡ Some o)
+there_in i [] q e = absurd cc
+there_in i (f ∷ fs) q e = by (position i f.body) refl (located i fs) refl (there_in i fs) e where
+  by : (r : Option ℕ) → position i f.body ≡ r → (l : Option (ℕ × ℕ)) → located i fs ≡ l → ((r : ℕ × ℕ) → located i fs ≡ Some r → (o : Op) × (op_in fs (Some r) ≡ Some o)) →
+      located_by r l ≡ Some q → (o : Op) × (op_in (f ∷ fs) (Some q) ≡ Some o)
+  by (Some n) t l k rec g = let x = in_range i f.body n t in (x.0, ap (λ q. op_in (f ∷ fs) (Some q)) (sym (same_Some (0, n) q g)) ∙ x.1)
+  by None t None k rec g = absurd cc
+  by None t (Some r) k rec g = let x = rec r k in (x.0, ap (λ q. op_in (f ∷ fs) (Some q)) (sym (same_Some (suc r.0, r.1) q g)) ∙ x.1)
+
 -- a place is one of the module's
 pub place_is_there : (m : Module) (i : OpId) (p : Place) → place_of i m.funcs ≡ Some p → (o : Op) × (op_at p m.funcs ≡ Some o)
-place_is_there m i p h = there m.funcs (p.func, p.op) (located_at i m.funcs p h) where
-  there : (fs : List FuncShape) (q : ℕ × ℕ) → located i fs ≡ Some q → (o : Op) × (op_in fs (Some q) ≡ Some o)
-  there [] q e = absurd cc
-  there (f ∷ fs) q e = by (position i f.body) refl (located i fs) refl e where
-    by : (r : Option ℕ) → position i f.body ≡ r → (l : Option (ℕ × ℕ)) → located i fs ≡ l → located_by r l ≡ Some q → (o : Op) × (op_in (f ∷ fs) (Some q) ≡ Some o)
-    by (Some n) t l k g = let x = in_range i f.body n t in (x.0, ap (λ q. op_in (f ∷ fs) (Some q)) (sym (same_Some (0, n) q g)) ∙ x.1)
-    by None t None k g = absurd cc
-    by None t (Some r) k g = let x = there fs r k in (x.0, ap (λ q. op_in (f ∷ fs) (Some q)) (sym (same_Some (suc r.0, r.1) q g)) ∙ x.1)
+place_is_there m i p h = there_in i m.funcs (p.func, p.op) (located_at i m.funcs p h)

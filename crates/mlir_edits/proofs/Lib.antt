@@ -3,3 +3,6 @@ pub mod Scopes
 pub mod Unique
 pub mod Formed
 pub mod Found
+pub mod Mapping
+pub mod Loops
+pub mod Bounds

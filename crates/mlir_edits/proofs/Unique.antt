@@ -1,5 +1,5 @@
 -- Each operation of a verified module has a number of its own.
-use Rattle.std.proofs.Common.{◌≡◌, ◌==◌, ℕ, Bool, true, false, List, [], ◌∷◌, ◌++◌, map, Option, Some, None, refl, sym, ap, subst, ◌∙◌, append_assoc}
+use Rattle.std.proofs.Common.{◌≡◌, ◌==◌, ◌+◌, ◌&&◌, ℕ, Bool, true, false, List, [], ◌∷◌, ◌++◌, map, Option, Some, None, refl, sym, ap, subst, ◌∙◌, append_assoc}
 use Rattle.std.specs.Prelude.{◌||◌, ⊤, if◌then◌else◌}
 use Rattle.std.specs.List.{flat_map}
 use Rattle.std.proofs.lemmas.List.{append-nil, map-append}
@@ -83,10 +83,10 @@ among_back n (x ∷ xs) ys h = (λ j. (x == n) || among_back n xs ys h j) ∙ or
 -- a number that is known stands at no operation
 pub known_absent : (i : OpId) (os : List Op) (k : ℕ) (known : List ℕ) → AreNew known os → is_among i.0 known ≡ true → position_from k i os ≡ None
 known_absent i [] k known h e = refl
-known_absent i (o ∷ os) k known h e = by (o.id.0 == i.0) refl where
-  by : (b : Bool) → (o.id.0 == i.0) ≡ b → (if b then Some k else position_from (k + 1) i os) ≡ None
-  by true q = absurd (let same = eqb-true o.id.0 i.0 q in let w : is_among o.id.0 known ≡ true = subst (λ (n : ℕ). is_among n known ≡ true) (sym same) e in cc)
-  by false q = known_absent i os (k + 1) (known ++ o.id.0 ∷ []) h.1 (among_front i.0 known (o.id.0 ∷ []) e)
+known_absent i (o ∷ os) k known h e = by (o.id.0 == i.0) refl (known_absent i os (k + 1) (known ++ o.id.0 ∷ []) h.1 (among_front i.0 known (o.id.0 ∷ []) e)) where
+  by : (b : Bool) → (o.id.0 == i.0) ≡ b → position_from (k + 1) i os ≡ None → (if b then Some k else position_from (k + 1) i os) ≡ None
+  by true q r = absurd (let same = eqb-true o.id.0 i.0 q in let w : is_among o.id.0 known ≡ true = subst (λ (n : ℕ). is_among n known ≡ true) (sym same) e in cc)
+  by false q r = r
 
 -- what stands somewhere is among the numbers there
 pub found_among : (i : OpId) (os : List Op) (k n : ℕ) → position_from k i os ≡ Some n → is_among i.0 (ids os) ≡ true

@@ -20,12 +20,12 @@ fn type_among(definitions: &[(ValueId, Ty)], v: ValueId) -> Option<&Ty>
 }
 
 /// The second where it is there.
-fn later<'a>(earlier: Option<&'a Ty>, later: Option<&'a Ty>) -> Option<&'a Ty>
-    ensures { option_copied result ≡ first (option_copied later) (option_copied earlier) }
+fn newer<'a>(known: Option<&'a Ty>, new: Option<&'a Ty>) -> Option<&'a Ty>
+    ensures { option_copied result ≡ first (option_copied new.entry) (option_copied known.entry) }
 {
-    match later {
+    match new {
         Some(ty) => Some(ty),
-        None => earlier,
+        None => known,
     }
 }
 
@@ -39,7 +39,7 @@ fn type_after<'a>(
 {
     let mut found = type_among(params, v);
     for op in ops {
-        found = later(found, type_among(op.results.as_slice(), v));
+        found = newer(found, type_among(op.results.as_slice(), v));
     }
     found
 }

@@ -28,7 +28,7 @@ fn one_bit() -> Width
 
 /// The width of a tensor's elements.
 fn width_in(ty: Option<&Ty>) -> Width
-    ensures { result ≡ width_in (option_copied ty) }
+    ensures { result ≡ width_in (option_copied ty.entry) }
 {
     match ty {
         Some(Ty::Tensor { elem, .. }) => *elem,
@@ -37,7 +37,7 @@ fn width_in(ty: Option<&Ty>) -> Width
 }
 
 fn rank_of(ty: Option<&Ty>) -> u64
-    ensures { result ≡ rank_of (option_copied ty) }
+    ensures { result ≡ rank_of (option_copied ty.entry) }
 {
     match ty {
         Some(Ty::Tensor { extents, .. }) => extents.len() as u64,
