@@ -115,7 +115,7 @@ all_listed [] = refl
 all_listed (f ∷ fs) = λ j. ids_listed f.body j ++ all_listed fs j
 
 -- LIMITS
-small_middle : (front back : List FuncShape) (f : FuncShape) → list_all is_small_func (front ++ (f ∷ back)) ≡ true → is_small_func f ≡ true
+pub small_middle : (front back : List FuncShape) (f : FuncShape) → list_all is_small_func (front ++ (f ∷ back)) ≡ true → is_small_func f ≡ true
 small_middle front back f h = (and_parts (is_small_func f) _ (and_parts (list_all is_small_func front) _ (sym (list_all-append is_small_func front (f ∷ back)) ∙ h)).1).0
 
 small_replaced : (front back : List FuncShape) (f g : FuncShape) → list_all is_small_func (front ++ (f ∷ back)) ≡ true → is_small_func g ≡ true → list_all is_small_func (front ++ (g ∷ back)) ≡ true
@@ -130,7 +130,7 @@ body_small before news after rest o h k same =
     list_all-append is_small_op before (news ++ rest)
     ∙ and_from _ _ parts.0 (list_all-append is_small_op news rest ∙ and_from _ _ k (same ∙ (and_parts (is_small_op o) (list_all is_small_op after) parts.1).1))
 
-small_target : (before after : List Op) (o : Op) → list_all is_small_op (before ++ (o ∷ after)) ≡ true → is_small_op o ≡ true
+pub small_target : (before after : List Op) (o : Op) → list_all is_small_op (before ++ (o ∷ after)) ≡ true → is_small_op o ≡ true
 small_target before after o h = (and_parts (is_small_op o) _ (and_parts (list_all is_small_op before) _ (sym (list_all-append is_small_op before (o ∷ after)) ∙ h)).1).0
 
 -- THE MODULE
