@@ -33,7 +33,7 @@ pub closed : (n : Names) (o : Op) (rest : List Op) → 0 < length rest → IsPri
 closed n o [] l k h = absurd (omega arith)
 closed n o (p ∷ os) l k h = (k, h)
 
-agree_next : (n : Names) (scope rs : Scope) (kind : OpKind) → IsPrintableLine n.rows rs kind → Agree n.rows scope → Agree (names_after n rs kind).rows (scope ++ rs)
+pub agree_next : (n : Names) (scope rs : Scope) (kind : OpKind) → IsPrintableLine n.rows rs kind → Agree n.rows scope → Agree (names_after n rs kind).rows (scope ++ rs)
 agree_next n scope [] kind p h = absurd p
 agree_next n scope (r ∷ []) kind p h = agree_last n.rows scope r (Result n.results) h
 agree_next n scope (r ∷ (s ∷ rs)) kind p h = absurd p

@@ -40,7 +40,8 @@ use Rattle.mlir_print.specs.Renumbered.{number_in, kind_renumbered, results_renu
 use Rattle.mlir_print.specs.declared.names.Given.TheVariants.{Argument, Result}
 use Rattle.mlir_roundtrip.specs.Printable.{IsPrintableLine, ArePrintableOps, IsPrintableFunc, ArePrintable}
 use Rattle.printable_steps.specs.Laws.{RenumberedVerifies}
-use Rattle.printable_steps.proofs.Types.{row_type, Agree, agree_last, params_agree, defined_by_type}
+use Rattle.printable_steps.proofs.Types.{row_type, Agree, params_agree, defined_by_type}
+use Rattle.printable_steps.proofs.Bodies.{agree_next}
 use Rattle.printable_steps.proofs.Numbered.{numbered, numbered_last, numbered_below, was, stands, placed, renumber, renumber_is, params_numbered, Counts, counts_append, counts_own, results_count, results_length}
 
 -- KINDS
@@ -181,11 +182,6 @@ module _ (b : ℕ) (wanted : List Ty) where
       }
 
   -- ALONG A BODY
-  next_agree : (n : Names) (scope rs : Scope) (kind : OpKind) → IsPrintableLine n.rows rs kind → Agree n.rows scope → Agree (names_after n rs kind).rows (scope ++ rs)
-  next_agree n scope [] kind p h = absurd p
-  next_agree n scope (r ∷ []) kind p h = agree_last n.rows scope r (Result n.results) h
-  next_agree n scope (r ∷ (s ∷ rs)) kind p h = absurd p
-
   next_numbered : (n : Names) (rs : Scope) (kind : OpKind) → IsPrintableLine n.rows rs kind → numbered b (names_after n rs kind).rows ≡ numbered b n.rows ++ results_renumbered (length n.rows + b) rs
   next_numbered n [] kind p = absurd p
   next_numbered n (r ∷ []) kind p = numbered_last b n.rows (row_of r.0 (Result n.results) r.1)
@@ -207,7 +203,7 @@ module _ (b : ℕ) (wanted : List Ty) where
     op_passes k n scope o a h.0,
     return_renumbered (renumber b n.rows) o.kind ∙ h.1,
     subst (λ s. BodyPasses s wanted (ops_renumbered b (suc k) (next n o) (q ∷ os))) (next_numbered n o.results o.kind p.0)
-        (body_passes (q ∷ os) (suc k) (next n o) (scope ++ o.results) (next_agree n scope o.results o.kind p.0 a) p.1 h.2),
+        (body_passes (q ∷ os) (suc k) (next n o) (scope ++ o.results) (agree_next n scope o.results o.kind p.0 a) p.1 h.2),
   )
 
   -- its numbers

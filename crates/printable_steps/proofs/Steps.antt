@@ -26,7 +26,7 @@ use Rattle.structured_steps.specs.Interchange.{breaks_permutation, breaks_reduct
 use Rattle.structured_steps.proofs.Turning.{order_of}
 use Rattle.step_results.proofs.Generalized.{generalized_verifies}
 use Rattle.step_results.proofs.Interchanged.{interchanged_verifies}
-use Rattle.step_results.proofs.Numbers.{or_false}
+use Rattle.verified_runs.proofs.ReusedBodies.{or_false}
 use Rattle.mlir_roundtrip.proofs.Laws.{read_is_printable}
 use Rattle.printable_steps.specs.Laws.{ReadPrintable, GeneralizedPrintable, InterchangedPrintable}
 use Rattle.printable_steps.proofs.Payloads.{structured_result, structured_few, interchanged_few}

@@ -40,7 +40,7 @@ use Rattle.step_results.specs.Edits.{IsTarget, FitsThere, Fits}
 use Rattle.step_results.specs.Laws.{InterchangedVerifies}
 use Rattle.step_results.proofs.Anew.{renumbered_types, fresh_results, generic_fits, structured_one, structured_goes_on}
 use Rattle.step_results.proofs.Edits.{edits_verify}
-use Rattle.step_results.proofs.Numbers.{or_false}
+use Rattle.verified_runs.proofs.ReusedBodies.{or_false}
 use Rattle.step_results.proofs.Small.{numbers_below}
 use Rattle.step_results.proofs.TurnedMaps.{map_turned, none_negative, dimensions_turned, among_at, projected_turned}
 use Rattle.step_results.proofs.TurnedPayloads.{payload_kept, names_kept}

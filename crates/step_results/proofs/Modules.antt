@@ -26,7 +26,8 @@ use Rattle.verified_runs.specs.Passes.{OpPasses, BodyPasses, FuncPasses}
 use Rattle.verified_runs.proofs.Verified.{verified_passes}
 use Rattle.step_results.specs.Modules.{ModulePasses, is_small_func}
 use Rattle.step_results.specs.Laws.{VerifiedByFunctions}
-use Rattle.step_results.proofs.Numbers.{or_false, or_none, own_parts, own_both}
+use Rattle.verified_runs.proofs.ReusedBodies.{or_false}
+use Rattle.step_results.proofs.Numbers.{or_none, own_parts, own_both}
 use Rattle.step_results.proofs.Scalars.{AreConstants, params_constant, later_constant, typed_kept}
 
 not_false : (b : Bool) → not b ≡ false → b ≡ true

@@ -6,11 +6,8 @@ use Rattle.mlir_meaning.specs.Grids.{Each}
 use Rattle.mlir_meaning.proofs.Through.{each_left, each_right}
 use Rattle.mlir_verify.specs.Names.{redefines}
 use Rattle.mlir_verify.proofs.Adding.{redefines-append}
+use Rattle.verified_runs.proofs.ReusedBodies.{or_false}
 use Rattle.step_results.specs.Edits.{AreFresh}
-
-pub or_false : (a b : Bool) → (a || b) ≡ false → (a ≡ false) × (b ≡ false)
-or_false true b e = absurd cc
-or_false false b e = (refl, e)
 
 pub or_none : (a b : Bool) → a ≡ false → b ≡ false → (a || b) ≡ false
 or_none true b h k = absurd cc

@@ -11,7 +11,8 @@ use Rattle.mlir_meaning.specs.States.{names_of}
 use Rattle.mlir_verify.specs.Names.{redefines, ids}
 use Rattle.verified_runs.specs.Edits.{Edit, Step, moved, placed, edited_body, edited_func}
 use Rattle.verified_runs.specs.Passes.{Scope, scope_after}
-use Rattle.step_results.proofs.Numbers.{or_false, among_parts, among_right, own_parts, known_absent}
+use Rattle.verified_runs.proofs.ReusedBodies.{or_false}
+use Rattle.step_results.proofs.Numbers.{among_parts, among_right, own_parts, known_absent}
 
 abbrev pub func_with : FuncShape → List Op → FuncShape
 func_with f body = record { name = f.name; params = f.params; results = f.results; body = body }

@@ -14,7 +14,8 @@ use Rattle.mlir_meaning.specs.Grids.{Each}
 use Rattle.mlir_verify.specs.Maps.{is_not_negative}
 use Rattle.structured_steps.specs.Interchange.{turned, origin, insert_term, turned_terms, turned_expr, turned_map}
 use Rattle.structured_steps.proofs.Turning.{Order, past}
-use Rattle.step_results.proofs.Numbers.{or_false, or_none}
+use Rattle.verified_runs.proofs.ReusedBodies.{or_false}
+use Rattle.step_results.proofs.Numbers.{or_none}
 
 -- what the test of a first term says
 pub record FitsFirst (n : ℕ) (t : ℕ × ℤ) (ts : List (ℕ × ℤ)) (low : ℕ) : Type 0 where
@@ -145,9 +146,6 @@ module _ (order : List ℕ) (n : ℕ) (o : Order order n) where
     by_test false e =
         let m : n ≤ j = grind (arith, nat_tests) in
         decided (λ q. absurd (let p = past order n o j m in omega (arith, p, q, l)))
-
-  pub turned_back : (j d : ℕ) → d < n → (turned order j == turned order d) ≡ (j == d)
-  turned_back j d l = turned_test j (turned order d) (o.lands d l) ∙ ap (λ k. j == k) (o.back d l)
 
   -- MAPS
   apart : (d e : ℕ) → d < n → e < n → d ≢ e → turned order d ≢ turned order e
