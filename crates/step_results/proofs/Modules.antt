@@ -89,9 +89,28 @@ module _ (before : List FuncShape) (f : FuncShape) (params : repeats_params befo
       broken (place_at before f earlier o os) ≡ None
   place_passes earlier o os known h end limits own id =
       let p = place_at before f earlier o os in
-      none_broken p
-      (names_kept p params id h.known own, (types_kept p known h, (end_kept p end, (signature_kept p signature, (h.maps, (h.iterators, (h.extents,
-      (h.windows, (refl, (refl, (refl, (refl, (refl, (limits_kept p limits small, tt))))))))))))))
+      none_broken p (
+        names_kept p params id h.known own,
+        (
+          types_kept p known h,
+          (
+            end_kept p end,
+            (
+              signature_kept p signature,
+              (
+                h.maps,
+                (
+                  h.iterators,
+                  (
+                    h.extents,
+                    (h.windows, (refl, (refl, (refl, (refl, (refl, (limits_kept p limits small, tt))))))),
+                  ),
+                ),
+              ),
+            ),
+          ),
+        ),
+      )
 
   body_unbroken : (later earlier : List Op) → BodyPasses (scope_at f earlier) f.results later → AreConstants (type_among (scope_at f earlier)) (constants_at earlier) →
       list_all is_small_op later ≡ true → redefines (flat_map defined_by later) (defined_at before f earlier) ≡ false → redefines (ids later) (ids_at before earlier) ≡ false →
