@@ -14,7 +14,7 @@ use Rattle.mlir_ir.specs.declared.tree.Extent.TheVariants.{Fixed, Any}
 use Rattle.mlir_ir.specs.declared.tree.ValueId.{ValueId}
 use Rattle.mlir_ir.specs.Count.{first}
 use Rattle.mlir_meaning.specs.Grids.{Each}
-use Rattle.mlir_meaning.specs.Points.{dimension_of, selects}
+use Rattle.mlir_meaning.specs.Points.{selects}
 use Rattle.mlir_meaning.specs.States.{State, grid_of}
 use Rattle.mlir_meaning.specs.Meaning.{values_in}
 use Rattle.mlir_meaning.specs.Structured.{axis_extent, operand_extent}

@@ -1,15 +1,14 @@
 -- The function with a pair fused passes the verifier.
-use Rattle.std.proofs.Common.{◌≡◌, ℕ, zero, suc, ◌+◌, ◌<◌, ◌==◌, ◌&&◌, Bool, true, false, List, [], ◌∷◌, ◌++◌, length, Option, Some, None, refl, ap, sym, subst, ◌∙◌, arith, length-append}
+use Rattle.std.proofs.Common.{◌≡◌, ℕ, zero, suc, ◌<◌, ◌==◌, ◌&&◌, Bool, true, List, [], ◌∷◌, ◌++◌, length, Option, Some, None, refl, ap, sym, subst, ◌∙◌, arith, length-append}
 use Rattle.std.specs.Prelude.{is_some, zip}
 use Rattle.std.specs.List.{list_all}
 use Rattle.std.proofs.lemmas.Bool.{and_parts}
 use Rattle.std.proofs.lemmas.List.{length-map}
-use Rattle.affine_maps.specs.Shape.{MapShape}
 use Rattle.mlir_base.specs.Types.{bits_of}
 use Rattle.mlir_base.specs.declared.types.ElemTy.{ElemTy}
 use Rattle.mlir_base.specs.declared.types.ElemTy.TheVariants.{Int, Index}
 use Rattle.payload_ops.specs.Payload.{IsPayload}
-use Rattle.mlir_ir.specs.Count.{operands, uses_op}
+use Rattle.mlir_ir.specs.Count.{uses_op}
 use Rattle.mlir_ir.specs.Shape.{FuncShape}
 use Rattle.mlir_ir.specs.declared.tree.Op.{Op}
 use Rattle.mlir_ir.specs.declared.tree.Ty.{Ty}
@@ -19,22 +18,21 @@ use Rattle.mlir_meaning.specs.Grids.{Each}
 use Rattle.mlir_meaning.specs.Laws.{all_but}
 use Rattle.mlir_meaning.specs.Meaning.{captured_in, scalar_in}
 use Rattle.mlir_meaning.specs.Names.{ReadsOnly, OpsReadOnly}
-use Rattle.mlir_meaning.proofs.Grids.{each-append, each_more}
+use Rattle.mlir_meaning.proofs.Grids.{each-append}
 use Rattle.mlir_meaning.proofs.Through.{each_left, each_right}
 use Rattle.mlir_verify.specs.Built.{is_built}
 use Rattle.mlir_verify.specs.Constants.{Constants}
 use Rattle.mlir_verify.specs.Ends.{is_return}
 use Rattle.mlir_verify.specs.Names.{in_scope}
-use Rattle.mlir_verify.specs.Place.{Types, type_among, is_empty}
-use Rattle.mlir_verify.specs.Types.{is_typed, is_input}
+use Rattle.mlir_verify.specs.Place.{Types, is_empty}
+use Rattle.mlir_verify.specs.Types.{is_input}
 use Rattle.verified_runs.specs.Forms.{Structured, kind_of}
 use Rattle.verified_runs.specs.Passes.{Scope, OpPasses, BodyPasses, FuncPasses, scope_after}
 use Rattle.fuse_laws.specs.Joined.{spliced, Fit}
 use Rattle.fuse_laws.specs.Fused.{joint}
 use Rattle.fuse_laws.proofs.Fusing.{spliced_length}
 use Rattle.tile_bridge.specs.Instances.{input_maps}
-use Rattle.tile_bridge.proofs.Fitting.{Passes}
-use Rattle.pair_laws.specs.Pairs.{captured_of, place_in, joint_of, fused_op}
+use Rattle.pair_laws.specs.Pairs.{captured_of, place_in, fused_op}
 use Rattle.pair_laws.specs.FuseAll.{Pair, fused_of, has_small_maps}
 use Rattle.pair_laws.specs.Laws.{FusedPairPasses}
 use Rattle.pair_laws.proofs.Forming.{fused_fits}

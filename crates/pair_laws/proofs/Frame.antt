@@ -1,5 +1,5 @@
 -- A body without a definition that nothing in it uses passes the verifier as it did before.
-use Rattle.std.proofs.Common.{◌≡◌, ◌≢◌, ℕ, ◌<◌, ◌==◌, ◌||◌, Bool, true, false, List, [], ◌∷◌, ◌++◌, length, Option, Some, None, refl, ap, sym, ◌∙◌, arith, eq-eqb}
+use Rattle.std.proofs.Common.{◌≡◌, ◌≢◌, ℕ, ◌<◌, ◌||◌, Bool, true, false, List, [], ◌∷◌, ◌++◌, length, Some, None, refl, sym, ◌∙◌, arith, eq-eqb}
 use Rattle.std.specs.Prelude.{not, if◌then◌else◌}
 use Rattle.std.proofs.lemmas.Bool.{ne_eqb, false≢true}
 use Rattle.mlir_ir.specs.Count.{first, operands}
@@ -13,11 +13,10 @@ use Rattle.mlir_meaning.specs.Names.{AreIn, ReadsOnly, OpsReadOnly}
 use Rattle.mlir_meaning.proofs.Grids.{each_more}
 use Rattle.mlir_meaning.proofs.Identity.{same, values-id, renamed-id}
 use Rattle.affine_maps.specs.Permutation.{is_among}
-use Rattle.mlir_verify.specs.Built.{is_built_kind}
 use Rattle.mlir_verify.specs.Extents.{breaks_extents}
 use Rattle.mlir_verify.specs.Maps.{breaks_maps}
 use Rattle.mlir_verify.specs.Names.{numbers, in_scope}
-use Rattle.mlir_verify.specs.Place.{type_among, is_empty}
+use Rattle.mlir_verify.specs.Place.{type_among}
 use Rattle.mlir_verify.specs.Types.{is_typed}
 use Rattle.mlir_verify.specs.Windows.{breaks_windows}
 use Rattle.mlir_verify.proofs.Standing.{type_among-append}

@@ -1,6 +1,6 @@
 -- Rules V5 to V8 at the fused operation: its maps fit, its axes agree, and it reads inside its operands.
-use Rattle.std.proofs.Common.{◌≡◌, ℕ, suc, ◌+◌, ◌<◌, ◌==◌, ◌&&◌, ◌||◌, Bool, true, false, pos, List, [], ◌∷◌, ◌++◌, map, length, get_or, Option, Some, None, refl, ap, sym, subst, ◌∙◌, arith, append_assoc, eqb-true}
-use Rattle.std.specs.Prelude.{not, is_some, zip, slice_get, take, option_map}
+use Rattle.std.proofs.Common.{◌≡◌, ℕ, ◌+◌, ◌<◌, ◌==◌, ◌&&◌, ◌||◌, Bool, true, false, pos, List, [], ◌∷◌, ◌++◌, map, length, get_or, Option, Some, None, refl, ap, sym, subst, ◌∙◌, arith, append_assoc, eqb-true}
+use Rattle.std.specs.Prelude.{not, is_some, zip, option_map}
 use Rattle.std.specs.List.{list_all, enumerate_from}
 use Rattle.std.proofs.lemmas.Bool.{and_parts}
 use Rattle.std.proofs.lemmas.List.{length-map}
@@ -17,21 +17,21 @@ use Rattle.mlir_ir.specs.declared.tree.Iter.{Iter}
 use Rattle.mlir_ir.specs.declared.tree.Ty.{Ty}
 use Rattle.mlir_ir.specs.declared.tree.Ty.TheVariants.{Scalar, Tensor, Vector}
 use Rattle.mlir_ir.specs.declared.tree.ValueId.{ValueId}
-use Rattle.mlir_meaning.specs.Grids.{Each, InBox}
+use Rattle.mlir_meaning.specs.Grids.{InBox}
 use Rattle.mlir_meaning.specs.Meaning.{values_in}
 use Rattle.mlir_meaning.specs.Points.{to_nat, map_point}
 use Rattle.mlir_meaning.specs.States.{State, grid_of, width_of}
 use Rattle.mlir_meaning.specs.declared.values.Datum.{Datum}
 use Rattle.mlir_meaning.specs.declared.values.Datum.TheVariants.{Number, Bits, Cells}
 use Rattle.mlir_meaning.proofs.Through.{each_left}
-use Rattle.mlir_verify.specs.Extents.{is_same_extent, are_same_extents, has_extents_of, has_extent, axes_agree, keeps_output, keeps_extents, breaks_extents}
+use Rattle.mlir_verify.specs.Extents.{is_same_extent, are_same_extents, has_extents_of, has_extent, axes_agree, keeps_extents, breaks_extents}
 use Rattle.mlir_verify.specs.Maps.{Axis, axes, extent_of, output_map, output_dimensions, is_iterator, fits_operand, fit_operands, cover_dimensions, match_output, breaks_maps, breaks_iterators}
 use Rattle.mlir_verify.specs.Place.{Types, type_among}
 use Rattle.mlir_verify.specs.Tensors.{extents_of, is_alike, result_type}
 use Rattle.mlir_verify.specs.Windows.{has_no_points, operand_stays_in, inputs_stay_in, breaks_windows}
 use Rattle.verified_runs.specs.Asks.{ReadsInside, ReadInside}
 use Rattle.verified_runs.specs.Forms.{Structured, kind_of}
-use Rattle.verified_runs.specs.Passes.{FuncPasses, scope_after}
+use Rattle.verified_runs.specs.Passes.{FuncPasses}
 use Rattle.verified_runs.specs.Typed.{AreTyped, HoldsIn, IsSized}
 use Rattle.point_laws.specs.Boxes.{picks}
 use Rattle.point_laws.specs.Orders.{old_point}
@@ -43,7 +43,7 @@ use Rattle.fuse_laws.specs.Joined.{spliced}
 use Rattle.fuse_laws.specs.Fused.{pulled}
 use Rattle.fuse_laws.proofs.Fusing.{read_at, composed_is}
 use Rattle.fuse_laws.proofs.OnePoint.{picks_new}
-use Rattle.tile_bridge.specs.Instances.{HasExtents, IsInstance, instance_of, input_maps}
+use Rattle.tile_bridge.specs.Instances.{HasExtents, instance_of, input_maps}
 use Rattle.tile_bridge.proofs.Fitting.{Split, split, enumerated}
 use Rattle.pair_laws.specs.Pairs.{fused_op}
 use Rattle.pair_laws.specs.FuseAll.{Pair, fused_of, has_small_maps}
@@ -53,7 +53,6 @@ use Rattle.pair_laws.proofs.Found.{IsFound}
 use Rattle.pair_laws.proofs.Pairing.{spliced-map, spliced-append}
 use Rattle.pair_laws.proofs.Premises as premises
 use Rattle.pair_laws.proofs.Premises.{later, t0, t2, p_op, c_op, p_types, c_types, result_typed, ds_are, m_map, fit_there, moved_maps, within, p_rules, p_order, typed_p, pi, ci, sized, known}
-use Rattle.pair_laws.proofs.Rules.{IsTypedGeneric}
 use Rattle.pair_laws.proofs.Scopes.{scope_after-append}
 use Rattle.pair_laws.proofs.Windows.{read_inside, inside_spliced, windows_stay}
 use Rattle.pair_laws.proofs.Zeros.{zero_state, zero_typed, HasFixed, types_fixed}

@@ -1,12 +1,11 @@
 -- A function that passes the verifier means what it meant after its first pair is fused, and after all are.
-use Rattle.std.proofs.Common.{◌≡◌, ℕ, zero, suc, false, List, ◌∷◌, ◌++◌, length, Option, Some, None, Ok, refl, ap, sym, subst, ◌∙◌}
-use Rattle.payload_laws.specs.Known.{may_trap}
+use Rattle.std.proofs.Common.{◌≡◌, ℕ, zero, suc, List, ◌∷◌, ◌++◌, length, Option, Some, None, Ok, refl, ap, sym, subst, ◌∙◌}
 use Rattle.mlir_ir.specs.Count.{uses_op}
 use Rattle.mlir_ir.specs.Shape.{FuncShape, TensorShape}
 use Rattle.mlir_meaning.specs.Meaning.{meaning}
 use Rattle.mlir_verify.specs.Place.{type_among}
 use Rattle.verified_runs.specs.Typed.{AreOf, AreTyped, types_of}
-use Rattle.verified_runs.specs.Passes.{FuncPasses, scope_after}
+use Rattle.verified_runs.specs.Passes.{FuncPasses}
 use Rattle.pair_laws.specs.FuseAll.{Pair, first_pair, fuse_pair, fuse_next, fuse_from}
 use Rattle.pair_laws.specs.Pairs.{Stands}
 use Rattle.pair_laws.specs.Laws.{FirstPairStands, FirstPairKeepsMeaning, FuseAllPasses, FuseAllKeepsMeaning}

@@ -1,15 +1,15 @@
 -- The pair of a producer and its consumer as one operation.
-use Rattle.std.proofs.Common.{◌≡◌, ◌≢◌, ℕ, zero, suc, ◌<◌, ◌==◌, ◌||◌, Bool, true, false, List, [], ◌∷◌, ◌++◌, map, length, Option, Some, None, ⊎_elim, refl, ap, sym, subst, ◌∙◌, arith, append_assoc, eq-eqb}
-use Rattle.std.specs.Prelude.{not, is_some, option_map, slice_get, if◌then◌else◌}
+use Rattle.std.proofs.Common.{◌≡◌, ◌≢◌, ℕ, zero, suc, ◌<◌, true, false, List, [], ◌∷◌, ◌++◌, map, length, Option, Some, ⊎_elim, refl, ap, sym, subst, ◌∙◌, arith, append_assoc, eq-eqb}
+use Rattle.std.specs.Prelude.{not, is_some, option_map, slice_get}
 use Rattle.std.specs.List.{list_all}
-use Rattle.std.proofs.lemmas.Bool.{and_parts, true≢false}
+use Rattle.std.proofs.lemmas.Bool.{true≢false}
 use Rattle.std.proofs.lemmas.List.{length-map, map-append}
 use Rattle.std.proofs.lemmas.Option.{slice_get_within, slice_get-map}
 use Rattle.affine_maps.specs.Compose.{composed}
 use Rattle.affine_maps.specs.Shape.{MapShape}
 use Rattle.payload_laws.specs.Laws.{NeverTraps}
 use Rattle.payload_laws.proofs.Traps.{never_traps}
-use Rattle.mlir_ir.specs.Count.{first, operands}
+use Rattle.mlir_ir.specs.Count.{operands}
 use Rattle.mlir_ir.specs.Shape.{FuncShape, TensorShape}
 use Rattle.mlir_ir.specs.declared.tree.Op.{Op}
 use Rattle.mlir_ir.specs.declared.tree.Ty.{Ty}
@@ -49,7 +49,7 @@ use Rattle.mlir_meaning.proofs.Removed.{in_place, removal}
 use Rattle.pair_laws.proofs.Forming.{fused_same}
 use Rattle.mlir_meaning.proofs.Held.{Untouched}
 use Rattle.pair_laws.proofs.Held.{still_holds}
-use Rattle.pair_laws.proofs.Names.{among_more, new_apart, each_known, untouched}
+use Rattle.pair_laws.proofs.Names.{among_more, each_known, untouched}
 use Rattle.tile_bridge.specs.Instances.{input_maps}
 
 -- SPLICED LISTS

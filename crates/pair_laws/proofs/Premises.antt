@@ -1,6 +1,6 @@
 -- What a function that passes the verifier gives of its first pair, in each typed state.
-use Rattle.std.proofs.Common.{◌≡◌, ℕ, zero, suc, ◌+◌, ◌<◌, ◌==◌, ◌&&◌, Bool, true, false, ℤ, List, [], ◌∷◌, ◌++◌, map, length, get_or, Option, Some, None, refl, ap, sym, subst, ◌∙◌, arith, eq-eqb, eqb-true}
-use Rattle.std.specs.Prelude.{is_some, not, zip, slice_get, take, nat_le, nat_lt, if◌then◌else◌}
+use Rattle.std.proofs.Common.{◌≡◌, ℕ, zero, suc, ◌+◌, ◌<◌, ◌==◌, ◌&&◌, Bool, true, false, ℤ, List, [], ◌∷◌, ◌++◌, map, length, get_or, Some, None, refl, ap, sym, subst, ◌∙◌, arith, eq-eqb, eqb-true}
+use Rattle.std.specs.Prelude.{not, zip, slice_get, take, nat_le, nat_lt, if◌then◌else◌}
 use Rattle.std.specs.List.{list_all}
 use Rattle.std.proofs.lemmas.Bool.{and_parts}
 use Rattle.std.proofs.lemmas.List.{length-map}
@@ -14,27 +14,26 @@ use Rattle.mlir_base.specs.Numbers.{is_in_range, is_coefficient}
 use Rattle.mlir_base.specs.declared.types.ElemTy.TheVariants.{Int}
 use Rattle.payload_ops.specs.Values.{is_supplied}
 use Rattle.payload_ops.specs.declared.step.PayloadStep.{PayloadStep}
-use Rattle.mlir_ir.specs.Count.{first, operands}
+use Rattle.mlir_ir.specs.Count.{first}
 use Rattle.mlir_ir.specs.Shape.{FuncShape}
 use Rattle.mlir_ir.specs.declared.tree.Extent.TheVariants.{Fixed}
-use Rattle.mlir_ir.specs.declared.tree.Op.{Op}
 use Rattle.mlir_ir.specs.declared.tree.OpKind.{OpKind}
 use Rattle.mlir_ir.specs.declared.tree.Ty.{Ty}
 use Rattle.mlir_ir.specs.declared.tree.ValueId.{ValueId}
 use Rattle.mlir_meaning.specs.Grids.{Each, count_up}
 use Rattle.mlir_meaning.specs.Meaning.{values_in, captured_in, scalar_in}
 use Rattle.mlir_meaning.specs.Points.{select_map}
-use Rattle.mlir_meaning.specs.States.{State, grid_of, width_of}
+use Rattle.mlir_meaning.specs.States.{State, grid_of}
 use Rattle.mlir_meaning.specs.declared.values.Datum.{Datum}
 use Rattle.mlir_meaning.proofs.Grids.{each-append, each_more}
-use Rattle.mlir_meaning.proofs.Through.{each_left, each_right}
+use Rattle.mlir_meaning.proofs.Through.{each_left}
 use Rattle.mlir_verify.specs.Maps.{output_map, output_dimensions, axes, extent_of, fits_operand, fit_operands, breaks_maps}
 use Rattle.mlir_verify.specs.Names.{numbers}
 use Rattle.mlir_verify.specs.Place.{Types, type_among}
 use Rattle.mlir_verify.specs.Tensors.{extents_of, is_alike, result_type}
 use Rattle.mlir_verify.specs.Types.{names_present}
 use Rattle.mlir_verify.proofs.Standing.{type_among-append}
-use Rattle.verified_runs.specs.Forms.{Structured, kind_of, structured_of}
+use Rattle.verified_runs.specs.Forms.{Structured, kind_of}
 use Rattle.verified_runs.specs.Passes.{Scope, OpPasses, BodyPasses, FuncPasses, scope_after}
 use Rattle.verified_runs.specs.Typed.{AreTyped, IsSized}
 use Rattle.verified_runs.proofs.Runs.{rest_passes}
@@ -49,7 +48,7 @@ use Rattle.tile_bridge.specs.Instances.{HasExtents, IsInstance, instance_of, inp
 use Rattle.tile_bridge.proofs.Bridge.{passes_there, is_instance}
 use Rattle.tile_bridge.proofs.Fitting.{Passes, Split, split, values_front}
 use Rattle.tile_bridge.proofs.Fitting as fitting
-use Rattle.pair_laws.specs.Pairs.{captured_of, place_in, joint_of, fused_op, placed_in, Produces, Pairs}
+use Rattle.pair_laws.specs.Pairs.{captured_of, place_in, fused_op, Produces, Pairs}
 use Rattle.pair_laws.specs.FuseAll.{avoids_out, fits, Pair}
 use Rattle.pair_laws.proofs.Boxes.{fits_keeps_box}
 use Rattle.pair_laws.proofs.Capturing.{captured_meet}

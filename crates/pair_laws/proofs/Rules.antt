@@ -1,11 +1,11 @@
 -- What rule V2 says of a generic, part by part, and what follows of its payload.
-use Rattle.std.proofs.Common.{◌≡◌, ℕ, zero, suc, ◌==◌, ◌&&◌, ◌<◌, Bool, true, false, ℤ, List, [], ◌∷◌, length, Option, Some, None, refl, ap, sym, subst, ◌∙◌, arith, eqb-true, eq-eqb}
-use Rattle.std.specs.Prelude.{zip, slice_get, not}
+use Rattle.std.proofs.Common.{◌≡◌, ℕ, zero, suc, ◌==◌, ◌&&◌, Bool, true, List, [], ◌∷◌, length, Option, Some, None, refl, ap, sym, subst, ◌∙◌, arith, eqb-true, eq-eqb}
+use Rattle.std.specs.Prelude.{zip, slice_get}
 use Rattle.std.specs.List.{list_all}
-use Rattle.std.proofs.lemmas.Bool.{and_parts, and_from}
+use Rattle.std.proofs.lemmas.Bool.{and_parts}
 use Rattle.std.proofs.lemmas.Option.{same_Some, none-some}
 use Rattle.affine_maps.specs.Map.{map_fits}
-use Rattle.payload_ops.specs.Payload.{IsPayload, payload_fits}
+use Rattle.payload_ops.specs.Payload.{IsPayload}
 use Rattle.payload_ops.specs.Shape.{PayloadShape}
 use Rattle.payload_ops.specs.Values.{is_supplied}
 use Rattle.payload_ops.specs.declared.step.Arg.{Arg}

@@ -1,5 +1,5 @@
 -- Operands that are read inside at each point of a box pass the test on windows.
-use Rattle.std.proofs.Common.{◌≡◌, ℕ, zero, suc, ◌+◌, ◌-◌, ◌*◌, ◌<◌, ◌==◌, ◌&&◌, ◌||◌, Bool, true, false, ℤ, pos, List, [], ◌∷◌, ◌++◌, map, length, get_or, Option, Some, None, inl, inr, ⊎_elim, refl, ap, sym, subst, ◌∙◌, arith, lt-ltb, eqb-true}
+use Rattle.std.proofs.Common.{◌≡◌, ℕ, zero, suc, ◌+◌, ◌-◌, ◌*◌, ◌<◌, ◌==◌, ◌&&◌, ◌||◌, Bool, true, false, ℤ, pos, List, [], ◌∷◌, ◌++◌, map, length, get_or, Option, Some, ⊎_elim, refl, ap, sym, subst, ◌∙◌, arith, lt-ltb, eqb-true}
 use Rattle.std.specs.Prelude.{is_some, zip}
 use Rattle.std.specs.List.{list_all, list_any, enumerate_from}
 use Rattle.std.proofs.lemmas.Bool.{and_parts}
@@ -15,7 +15,7 @@ use Rattle.mlir_ir.specs.declared.tree.Ty.{Ty}
 use Rattle.mlir_ir.specs.declared.tree.ValueId.{ValueId}
 use Rattle.mlir_meaning.specs.Grids.{Each, InBox}
 use Rattle.mlir_meaning.specs.Meaning.{values_in}
-use Rattle.mlir_meaning.specs.Points.{to_nat, map_point}
+use Rattle.mlir_meaning.specs.Points.{to_nat}
 use Rattle.mlir_meaning.specs.States.{State, grid_of}
 use Rattle.mlir_meaning.specs.declared.values.Datum.{Datum}
 use Rattle.mlir_meaning.specs.declared.values.Datum.TheVariants.{Number, Bits, Cells}
@@ -25,7 +25,7 @@ use Rattle.mlir_verify.specs.Tensors.{extents_of, is_fixed}
 use Rattle.mlir_verify.specs.Windows.{greatest_value, is_below, stays_in, operand_stays_in, is_zero, has_no_points}
 use Rattle.verified_runs.specs.Asks.{ReadsInside, ReadInside}
 use Rattle.verified_runs.specs.Typed.{IsSized}
-use Rattle.region_laws.specs.Operands.{IsPlain, ArePlain, reach, AreRead, IsRead}
+use Rattle.region_laws.specs.Operands.{IsPlain, reach, AreRead, IsRead}
 use Rattle.region_laws.proofs.Operands.{weight, value_is}
 use Rattle.tile_bridge.specs.Instances.{HasExtents}
 use Rattle.tile_bridge.proofs.Axes.{one_sized, short}

@@ -19,14 +19,10 @@ use Rattle.payload_laws.specs.Known.{may_trap}
 use Rattle.verified_runs.specs.Passes.{FuncPasses}
 use Rattle.std.specs.Prelude.{slice_index_or, Some, ◌++◌, ◌∷◌, []}
 use Rattle.mlir_meaning.specs.Meaning.{values_in}
-use Rattle.mlir_meaning.specs.States.{grid_of}
-use Rattle.region_laws.specs.Operands.{HasBox, reach}
-use Rattle.verified_runs.specs.Typed.{IsSized}
+use Rattle.region_laws.specs.Operands.{HasBox}
 use Rattle.affine_maps.specs.Shape.{MapShape}
-use Rattle.mlir_ir.specs.declared.tree.ValueId.{ValueId}
 use Rattle.mlir_ir.specs.declared.tree.Extent.TheVariants.{Fixed}
 use Rattle.mlir_verify.specs.Maps.{axes, extent_of}
-use Rattle.mlir_verify.specs.Tensors.{extents_of}
 use Rattle.mlir_verify.specs.Place.{Types}
 use Rattle.mlir_meaning.specs.Grids.{Each}
 
