@@ -23,7 +23,7 @@ use Rattle.verified_runs.specs.Typed.{AreTyped}
 use Rattle.verified_runs.specs.Passes.{Scope, FuncPasses, scope_after}
 use Rattle.verified_runs.specs.Forms.{Structured, kind_of}
 use Rattle.point_laws.specs.Orders.{is_order}
-use Rattle.fuse_laws.specs.Moved.{args_of}
+use Rattle.region_laws.specs.Moved.{args_of}
 use Rattle.tile_bridge.specs.Instances.{input_maps, is_parallel}
 use Rattle.pair_laws.specs.Pairs.{fused_op, fused_func, Produces, Pairs}
 

@@ -36,7 +36,7 @@ use Rattle.region_laws.proofs.Leaves.{size_fixed}
 use Rattle.point_laws.proofs.Cuts.{tile_cut}
 use Rattle.region_laws.proofs.Outputs.{output_offsets, output_sizes}
 use Rattle.point_laws.proofs.Ragged.{tile_begins}
-use Rattle.region_laws.proofs.Shifts.{still_is}
+use Rattle.region_laws.proofs.Stays.{still_is}
 use Rattle.region_laws.proofs.TileLoops.{sliced_adds}
 use Rattle.region_laws.proofs.Stated.{typed_instance, does_tile, tile_for}
 use Rattle.region_laws.specs.Instances.{Instance, IsTypedInstance, result_of}

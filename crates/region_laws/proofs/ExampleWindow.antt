@@ -34,7 +34,7 @@ use Rattle.region_laws.specs.Bodies.{Slice, slice_op, slice_ops, tiled_kind}
 use Rattle.region_laws.proofs.Foralls.{begins}
 use Rattle.region_laws.proofs.Leaves.{size_divides}
 use Rattle.point_laws.proofs.Cuts.{tile_cut}
-use Rattle.region_laws.proofs.Shifts.{still_is}
+use Rattle.region_laws.proofs.Stays.{still_is}
 use Rattle.region_laws.proofs.Stated.{typed_instance, notes_one, tile_forall_is}
 use Rattle.region_laws.specs.Instances.{Instance, IsTypedInstance, result_of}
 use Rattle.region_laws.specs.Bodies.{TileBody, Names}

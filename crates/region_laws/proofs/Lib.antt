@@ -8,7 +8,14 @@ pub mod Inner
 pub mod Nests
 pub mod Foralls
 pub mod TileLoops
+pub mod Moves
+pub mod Alike
+pub mod Fronts
+pub mod Hoisting
+pub mod Placing
+pub mod Behind
 pub mod Shifts
+pub mod Stays
 pub mod Leaves
 pub mod Building
 pub mod Tilings

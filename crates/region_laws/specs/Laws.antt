@@ -1,9 +1,12 @@
 -- The laws. Each is the contract of a function in `src/laws.rt`.
-use Rattle.std.specs.Prelude.{◌≡◌, ℕ, ◌<◌, Bool, false, List, [], ◌∷◌, map, length, Option, Some, option_map, slice_index, ◌⊎◌, true, replicate}
+use Rattle.std.specs.Prelude.{◌≡◌, ℕ, ◌<◌, Bool, false, List, [], ◌∷◌, map, length, Option, Some, option_map, slice_index, slice_index_or, ◌⊎◌, true, replicate}
 use Rattle.affine_maps.specs.Map.{dimension}
 use Rattle.affine_maps.specs.Shape.{MapShape}
 use Rattle.payload_ops.specs.Shape.{PayloadShape}
-use Rattle.payload_ops.specs.Values.{arg_bits}
+use Rattle.payload_ops.specs.Payload.{IsPayload}
+use Rattle.payload_ops.specs.Values.{payload_value, is_supplied}
+use Rattle.mlir_base.specs.declared.types.ElemTy.{ElemTy}
+use Rattle.mlir_base.specs.declared.types.ElemTy.TheVariants.{Int}
 use Rattle.payload_ops.specs.declared.step.Arg.{Arg}
 use Rattle.payload_ops.specs.declared.step.PayloadStep.{PayloadStep}
 use Rattle.mlir_ir.specs.declared.tree.Idx.{Idx}
@@ -28,7 +31,9 @@ use Rattle.region_laws.specs.Instances.{Instance, step_of, result_of, IsTypedIns
 use Rattle.region_laws.specs.Nests.{Level, TileLoop, AreNewVars, Begins, with_value, ended, noted}
 use Rattle.region_laws.specs.Operands.{CutsOutput, HasBox, IsMoved, IsRead, IsTile, inner_map, inner_maps, is_sliced, maps_of, operand_tile, operand_tiles}
 use Rattle.region_laws.specs.Regions.{AddsRegions, moved, tile}
-use Rattle.region_laws.specs.Shifts.{Earlier, Shifts, Stays, arg_to}
+use Rattle.region_laws.specs.Shifts.{Offset, tile_payload, tile_captured, IsOffset, Stays}
+use Rattle.region_laws.specs.Moved.{own_index}
+use Rattle.region_laws.specs.Captured.{hoisted, used, in_front, placed, IsBehind, IsNotCaptured}
 use Rattle.region_laws.specs.TileLoops.{IsNest, NotesTiles, nest_op, sliced_tile, started_tile, whole_tile}
 use Rattle.mlir_ir.specs.declared.tree.Iter.TheVariants.{Parallel, Reduction}
 use Rattle.mlir_meaning.specs.Points.{select_map, place_of, kept}
@@ -76,14 +81,39 @@ SliceOfWholeIsTile = (step : ℕ → List ℕ → Option ℕ) (cut : ℕ → Boo
     ≡ Some (slice_of (grid results) (picks ds os) (picks ds ns))
 
 -- PAYLOADS
--- the tile's payload, where `linalg.index` is moved by the offsets
+-- it gives what the payload gave; so payloads that are the same with their captured values in front give the same
+abbrev pub HoistedGives : Type 0
+HoistedGives = (c width caps : ℕ) (f : ℕ → ℕ) (p : PayloadShape) → IsPayload p →
+    Each (λ (s : PayloadStep). is_supplied width caps s.op ≡ true) p.steps →
+    ((k : ℕ) → k < caps → f k < c) → (point outer own ins : List ℕ) (out : ℕ) →
+    ((k : ℕ) → k < caps → slice_index_or outer (f k) 0 ≡ slice_index_or own k 0) →
+    payload_value (hoisted own_index c f p) (record { point = point; outer = outer; ins = ins; out = out })
+    ≡ payload_value p (record { point = point; outer = own; ins = ins; out = out })
+
+-- each captured value that is used has one step, right before the first step that uses it; the others have none,
+-- and the payload gives the same
+abbrev pub PlacedGives : Type 0
+PlacedGives = (c : ℕ) (ins_t : List ElemTy) (out_t : ElemTy) (rest : List PayloadStep) (yielded : Arg) →
+    IsPayload (in_front c ins_t out_t rest yielded) → Each (λ (s : PayloadStep). IsNotCaptured s.op) rest →
+    IsBehind c yielded →
+    (point outer ins : List ℕ) (out : ℕ) →
+    IsPayload (placed c ins_t out_t rest yielded)
+    × (payload_value (placed c ins_t out_t rest yielded)
+    (record { point = point; outer = map (λ k. slice_index_or outer k 0) (used c [] rest); ins = ins; out = out })
+    ≡ payload_value (in_front c ins_t out_t rest yielded)
+    (record { point = point; outer = outer; ins = ins; out = out }))
+
+-- the tile's payload is one, and gives at a point what the payload gives at the point moved: values keep their types
+-- where steps have other numbers
 abbrev pub IndicesMove : Type 0
-IndicesMove = (payload payload' : PayloadShape) (box os ns outer outer' : List ℕ) (r c : ℕ → ℕ) → Fits box os ns →
-    ((a : Arg) → arg_bits payload' (arg_to r c a) ≡ arg_bits payload a) →
-    ((k : ℕ) → slice_index outer' (c k) ≡ slice_index outer k) →
-    Shifts os outer' r c [] 0 0 payload.steps payload'.steps → Earlier (length payload.steps) payload.yielded →
-    payload'.yielded ≡ arg_to r c payload.yielded →
-    IsMoved os ns payload outer payload' outer'
+IndicesMove = (payload : PayloadShape) (w : ℕ) (box os ns outer outer' : List ℕ) (c : ℕ) (f : ℕ → ℕ)
+    (offsets : ℕ → Offset) → Fits box os ns → IsPayload payload → payload.out ≡ Int w →
+    Each (λ (s : PayloadStep). is_supplied (length box) (length outer) s.op ≡ true) payload.steps →
+    ((k : ℕ) → k < length outer → (f k < c) × (slice_index outer' (f k) ≡ slice_index outer k)) →
+    ((d : ℕ) → d < length box → IsOffset c outer' (slice_index os d) (offsets d)) →
+    IsPayload (tile_payload offsets c f payload)
+    × IsMoved os ns payload outer (tile_payload offsets c f payload)
+    (map (slice_index outer') (tile_captured offsets c f payload))
 
 -- a payload that names no dimension with an offset stays as it is
 abbrev pub OthersStay : Type 0

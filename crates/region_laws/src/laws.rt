@@ -1,5 +1,5 @@
 ghost use Rattle.region_laws.specs.Laws.{TypedByAxes, OperandsHaveTiles, TilesHaveBox, TiledGenericIsTile, TilesAddRegions, SliceOfWholeIsTile};
-ghost use Rattle.region_laws.specs.Laws.{IndicesMove, OthersStay, BodyDoesTile, BodyOfWholeOutput, BodyNotesTile, ForallBegins};
+ghost use Rattle.region_laws.specs.Laws.{IndicesMove, OthersStay, HoistedGives, PlacedGives, BodyDoesTile, BodyOfWholeOutput, BodyNotesTile, ForallBegins};
 ghost use Rattle.region_laws.specs.Laws.{MatmulTileIsMatmul, BatchMatmulTileIsBatchMatmul, FillTileIsFill, TransposeTileIsTranspose, BroadcastTileIsBroadcast};
 ghost use Rattle.region_laws.specs.Laws.{TileForMeansGeneric, TileForallMeansGeneric};
 
@@ -15,10 +15,13 @@ pub fn generics_have_tiles()
     ensures slice { SliceOfWholeIsTile }
 {}
 
-/// The payload on a tile gives at a point what the payload gives at the point moved by the offsets.
+/// The payload on a tile gives at a point what the payload gives at the point moved by the offsets. A payload
+/// with its captured values in front, or right before their first uses, gives what it gave.
 pub fn payloads_move_with_tiles()
     ensures indices { IndicesMove }
     ensures others { OthersStay }
+    ensures hoisted { HoistedGives }
+    ensures placed { PlacedGives }
 {}
 
 /// The operations of a body, from the slices on, do one tile.
