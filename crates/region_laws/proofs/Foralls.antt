@@ -19,6 +19,7 @@ use Rattle.mlir_meaning.specs.declared.values.Datum.{Datum}
 use Rattle.mlir_meaning.specs.declared.values.Datum.TheVariants.{Number, Cells}
 use Rattle.mlir_meaning.proofs.Grids.{each_point, each_more, map_same}
 use Rattle.point_laws.specs.Tiles.{counts}
+use Rattle.region_laws.specs.Among.{then_grid}
 use Rattle.region_laws.specs.Regions.{in_turn}
 use Rattle.region_laws.specs.Laws.{ForallBegins}
 use Rattle.region_laws.specs.Nests.{numbers_of, with_value, AreNewVars, VarsAt, noted, TileLoop}
@@ -43,13 +44,13 @@ module _ (ds : List (ℕ × ℕ)) (s : State) (h : ForallHead) (loop : TileLoop 
   forall_numbers_are q = (λ j. numbers_at (loop.lower j) (loop.step j) q) ∙ numbers_are ds q
 
 -- values that are defined together
-set_all_keeps : (N : ℕ → Bool) (vs : List ValueId) (xs : List Datum) (e : ℕ → Datum) (w : ℕ) → AreNewVars N vs → N w ≡ true → set_all e vs xs w ≡ e w
+pub set_all_keeps : (N : ℕ → Bool) (vs : List ValueId) (xs : List Datum) (e : ℕ → Datum) (w : ℕ) → AreNewVars N vs → N w ≡ true → set_all e vs xs w ≡ e w
 set_all_keeps N [] xs e w new is = refl
 set_all_keeps N (v ∷ vs) [] e w new is = refl
 set_all_keeps N (v ∷ vs) (x ∷ xs) e w new is =
     set_all_keeps (with_value N v) vs xs (set e v.0 x) w new.1 (or_right (w == v.0) (N w) is) ∙ set_other e v.0 w x (apart N v.0 w new.0 is)
 
-with_self : (N : ℕ → Bool) (v : ValueId) → with_value N v v.0 ≡ true
+pub with_self : (N : ℕ → Bool) (v : ValueId) → with_value N v v.0 ≡ true
 with_self N v = λ j. eq-eqb v.0 v.0 refl j || N v.0
 
 vars_are : (N : ℕ → Bool) (ds : List (ℕ × ℕ)) (vs : List ValueId) (q : List ℕ) (s : State) (e : ℕ → Datum) → AreNewVars N vs → s.values ≡ set_all e vs (numbers_of ds q) → VarsAt ds vs q s
@@ -76,11 +77,6 @@ begins N u ds vs lower upper step arg outs ty q loop new_arg new =
     }
 
 -- THE INSERTIONS
--- what follows a tensor that may trap
-abbrev pub then_grid : Option Grid → (Grid → Outcome) → Outcome
-then_grid None rest = Fails Division
-then_grid (Some g) rest = rest g
-
 module _ {Q : Type 0} (tile : Q → Option Grid) (off : Q → List ℕ) (rest : Grid → Outcome) where
   abbrev insert_tile : Q → Grid → Option Grid
   insert_tile q g = option_map (λ t. insert_into t (off q) g) (tile q)

@@ -21,6 +21,9 @@ pub mod Building
 pub mod Tilings
 pub mod Sliced
 pub mod Named
+pub mod Shared
+pub mod Spans
+pub mod NestsAt
 pub mod ExampleRaggedSum
 pub mod ExampleWindow
 pub mod Stated

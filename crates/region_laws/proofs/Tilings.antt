@@ -1,5 +1,5 @@
 -- The innermost body of a tiled generic, whole: slices, the tiled operation, and what becomes of its result.
-use Rattle.std.proofs.Common.{◌≡◌, ℕ, Bool, true, false, List, [], ◌∷◌, ◌++◌, length, Option, refl, ap, ◌∙◌}
+use Rattle.std.proofs.Common.{◌≡◌, ℕ, Bool, true, false, List, [], ◌∷◌, ◌++◌, length, Option, Some, None, refl, ap, ◌∙◌, append_assoc}
 use Rattle.std.specs.Prelude.{option_map}
 use Rattle.affine_maps.specs.Shape.{MapShape}
 use Rattle.payload_ops.specs.Shape.{PayloadShape}
@@ -10,10 +10,10 @@ use Rattle.mlir_ir.specs.declared.tree.Iter.{Iter}
 use Rattle.mlir_ir.specs.declared.tree.Ty.{Ty}
 use Rattle.mlir_ir.specs.declared.tree.ValueId.{ValueId}
 use Rattle.mlir_meaning.specs.Grids.{settled, InBox}
-use Rattle.mlir_meaning.specs.Loops.{insertions_of}
-use Rattle.mlir_meaning.specs.Meaning.{kind_meaning, run, values_in}
-use Rattle.mlir_meaning.specs.Moves.{slice_of}
-use Rattle.mlir_meaning.specs.States.{State, made}
+use Rattle.mlir_meaning.specs.Loops.{insertions_of, insertion_noted}
+use Rattle.mlir_meaning.specs.Meaning.{kind_meaning, run, values_in, places_in}
+use Rattle.mlir_meaning.specs.Moves.{slice_of, insert_into}
+use Rattle.mlir_meaning.specs.States.{State, made, then_goes, grid_of, width_of}
 use Rattle.mlir_meaning.specs.Structured.{generic_result, generic_element, generic_step}
 use Rattle.mlir_meaning.specs.declared.values.Grid.{Grid}
 use Rattle.mlir_meaning.specs.declared.values.Datum.{Datum}
@@ -23,6 +23,8 @@ use Rattle.region_laws.specs.Regions.{moved}
 use Rattle.region_laws.specs.Operands.{inner_maps, operand_tiles, maps_of, IsTyped}
 use Rattle.point_laws.specs.Boxes.{picks}
 use Rattle.region_laws.specs.Nests.{Knows, ended, noted, yield_of}
+use Rattle.region_laws.specs.Among.{then_grid, MakesTile}
+use Rattle.region_laws.specs.Laws.{InsertionIsNoted}
 use Rattle.region_laws.specs.Bodies.{Builds, after, Slice, slice_op, slice_ops, slice_names, IsBody, IsOutputSlice, MeansTiled}
 use Rattle.region_laws.specs.TileLoops.{sliced_tile, whole_tile, started_tile}
 use Rattle.point_laws.proofs.Cuts.{tile_cut}
@@ -30,6 +32,11 @@ use Rattle.region_laws.proofs.Inner.{inner_is}
 use Rattle.region_laws.proofs.Leaves.{inserts_tile, yields_tile, notes_tile}
 use Rattle.region_laws.proofs.Building.{BuildsTiles, builds_tiles, builds_slice}
 use Rattle.mlir_meaning.proofs.States.{set_same, set_other, apart, generic_runs, values_kept}
+
+-- a tensor that may be missing, or another one
+abbrev or_else : Grid → Option Grid → Grid
+or_else x None = x
+or_else x (Some g) = g
 
 module _ (box ts : List ℕ) (ms : List MapShape) (ds : List ℕ) (ins : List Datum) (width : ℕ) (captured : List ℕ) (payload : PayloadShape) (g : Grid) (typed : IsTyped box ms ds ins width g)
     (iterators : List Iter) (rank : length iterators ≡ length box) (q : List ℕ) (inside : InBox (tile_box box ts) q)
@@ -122,3 +129,60 @@ module _ (box ts : List ℕ) (ms : List MapShape) (ds : List ℕ) (ins : List Da
       ∙ notes_tile s.state width (started_tile step box ts ds x q) id (kind c.result) r tr
       (makes_tile s.state ((r, tr) ∷ []) c.result (slice_of x (picks ds os) (picks ds ns)) s.tiled s.knows s.at_out refl)
       id' arg c.offsets c.sizes (picks ds os) (s.shared ∙ shares) (s.inserts ∙ none) (λ d. o.offsets (after s.state r d) (knows_after s.state s.knows r d new))
+
+  -- THE TILE BEFORE ANYTHING
+  pub made_tile : (arg : ValueId) (x : Grid) (c : Slice) (id : OpId) (r : ValueId) (tr : Ty) → M arg.0 ≡ true → t.values arg.0 ≡ Cells width x → IsOutputSlice M t box ts ds q fs c → M r.0 ≡ false →
+      MakesTile M t (slice_ops fs ++ (slice_op arg c ∷ record { id = id; results = (r, tr) ∷ []; kind = kind c.result } ∷ [])) r width (started_tile step box ts ds x q)
+  unfolding slice_of run
+  made_tile arg x c id r tr there at_arg o new =
+      let s : Sliced arg x c = sliced arg x c there at_arg o in
+      record {
+        state = λ g. after s.state r (Cells width g);
+        runs = λ rest.
+            ap (λ l. run l t) (append_assoc (slice_ops fs) (slice_op arg c ∷ record { id = id; results = (r, tr) ∷ []; kind = kind c.result } ∷ []) rest)
+            ∙ s.runs (record { id = id; results = (r, tr) ∷ []; kind = kind c.result } ∷ rest)
+            ∙ ap (λ o. then_goes o (run rest)) (makes_tile s.state ((r, tr) ∷ []) c.result (slice_of x (picks ds os) (picks ds ns)) s.tiled s.knows s.at_out refl)
+            ∙ goes_on s.state rest (started_tile step box ts ds x q);
+        knows = λ g. knows_after s.state s.knows r (Cells width g) new;
+        holds = λ g. set_same s.state.values r.0 (Cells width g);
+        shared = λ g. s.shared;
+        inserts = λ g. s.inserts;
+      }
+    where
+      goes_on : (u : State) (rest : List Op) (o : Option Grid) → then_goes (made ((r, tr) ∷ []) u (option_map (Cells width) o)) (run rest) ≡ then_grid o (λ g. run rest (after u r (Cells width g)))
+      goes_on u rest None = refl
+      goes_on u rest (Some g) = refl
+
+  -- with its insertion
+  pub inserted_tile : (arg : ValueId) (x : Grid) (c : Slice) (id id' : OpId) (r z : ValueId) (tr tz : Ty) → M arg.0 ≡ true → t.values arg.0 ≡ Cells width x → IsOutputSlice M t box ts ds q fs c → M r.0 ≡ false → M z.0 ≡ false →
+      MakesTile M t ((slice_ops fs ++ (slice_op arg c ∷ record { id = id; results = (r, tr) ∷ []; kind = kind c.result } ∷ [])) ++ (record { id = id'; results = (z, tz) ∷ []; kind = InsertSlice r arg c.offsets c.sizes } ∷ []))
+      z width (sliced_tile step box ts ds q x)
+  unfolding kind_meaning run
+  inserted_tile arg x c id id' r z tr tz there at_arg o new new' =
+      let m : MakesTile M t (slice_ops fs ++ (slice_op arg c ∷ record { id = id; results = (r, tr) ∷ []; kind = kind c.result } ∷ [])) r width (started_tile step box ts ds x q) = made_tile arg x c id r tr there at_arg o new in
+      let one : Grid = or_else x (started_tile step box ts ds x q) in
+      record {
+        state = λ g. after (m.state one) z (Cells width g);
+        runs = λ rest.
+            ap (λ l. run l t) (append_assoc (slice_ops fs ++ (slice_op arg c ∷ record { id = id; results = (r, tr) ∷ []; kind = kind c.result } ∷ [])) (record { id = id'; results = (z, tz) ∷ []; kind = InsertSlice r arg c.offsets c.sizes } ∷ []) rest)
+            ∙ m.runs (record { id = id'; results = (z, tz) ∷ []; kind = InsertSlice r arg c.offsets c.sizes } ∷ rest)
+            ∙ goes_on m.state m.knows m.holds rest (started_tile step box ts ds x q);
+        knows = λ g. knows_after (m.state one) (m.knows one) z (Cells width g) new';
+        holds = λ g. set_same (m.state one).values z.0 (Cells width g);
+        shared = λ g. m.shared one;
+        inserts = λ g. m.inserts one;
+      }
+    where
+      goes_on : (state : Grid → State) → ((g : Grid) → Knows M t (state g)) → ((g : Grid) → (state g).values r.0 ≡ Cells width g) → (rest : List Op) (p : Option Grid) →
+          then_grid p (λ g. run (record { id = id'; results = (z, tz) ∷ []; kind = InsertSlice r arg c.offsets c.sizes } ∷ rest) (state g))
+          ≡ then_grid (option_map (λ t. insert_into t (picks ds os) x) p) (λ g. run rest (after (state (or_else x p)) z (Cells width g)))
+      goes_on state knows holds rest None = refl
+      goes_on state knows holds rest (Some g) =
+          let dest : (state g).values arg.0 ≡ Cells width x = knows g arg.0 there ∙ at_arg in
+          λ j. then_goes (made ((z, tz) ∷ []) (state g) (Some (Cells (width_of (dest j)) (insert_into (grid_of (holds g j)) (o.offsets (state g) (knows g) j) (grid_of (dest j)))))) (run rest)
+
+-- an insertion is noted
+pub is_noted : InsertionIsNoted
+unfolding kind_meaning run
+is_noted s id source dest offsets sizes rest k width t holds position =
+    λ j. then_goes (insertion_noted (position j) (grid_of (holds j)) (places_in s.values offsets) s) (run rest)

@@ -139,16 +139,22 @@ pub record Names : Type 0 where
 abbrev pub tiled_op : TileBody → ValueId → Names → Op
 tiled_op b outs n = record { id = n.id; results = (n.result, n.ty) ∷ []; kind = b.kind outs }
 
+-- the slices of the inputs, a slice c of the output, and the tiled operation
+abbrev pub tile_ops : TileBody → ValueId → Slice → Names → List Op
+tile_ops b arg c n = slice_ops b.inputs ++ (slice_op arg c ∷ tiled_op b c.result n ∷ [])
+
+abbrev pub insert_op : ValueId → Slice → Names → Op
+insert_op arg c n = record {
+  id = n.insertion;
+  results = (n.inserted, n.inserted_ty)
+      ∷ [];
+  kind = InsertSlice n.result arg c.offsets c.sizes;
+}
+
 -- with a slice c of the carried tensor, its insertion and the yield
 abbrev pub sliced_body : TileBody → ValueId → Slice → Names → List Op
 sliced_body b arg c n =
-    slice_ops b.inputs ++ (slice_op arg c ∷ tiled_op b c.result n
-    ∷ record {
-      id = n.insertion;
-      results = (n.inserted, n.inserted_ty)
-          ∷ [];
-      kind = InsertSlice n.result arg c.offsets c.sizes;
-    } ∷ yield_of n.end n.inserted ∷ [])
+    slice_ops b.inputs ++ (slice_op arg c ∷ tiled_op b c.result n ∷ insert_op arg c n ∷ yield_of n.end n.inserted ∷ [])
 
 -- with the carried tensor whole
 abbrev pub whole_body : TileBody → ValueId → Names → List Op

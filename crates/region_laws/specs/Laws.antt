@@ -1,5 +1,5 @@
 -- The laws. Each is the contract of a function in `src/laws.rt`.
-use Rattle.std.specs.Prelude.{◌≡◌, ℕ, ◌<◌, Bool, false, List, [], ◌∷◌, map, length, Option, Some, option_map, slice_index, slice_index_or, ◌⊎◌, true, replicate}
+use Rattle.std.specs.Prelude.{◌≡◌, ℕ, ◌<◌, Bool, false, List, [], ◌∷◌, ◌++◌, map, slice_get, length, Option, Some, option_map, slice_index, slice_index_or, ◌⊎◌, true, replicate}
 use Rattle.affine_maps.specs.Map.{dimension}
 use Rattle.affine_maps.specs.Shape.{MapShape}
 use Rattle.payload_ops.specs.Shape.{PayloadShape}
@@ -11,12 +11,13 @@ use Rattle.payload_ops.specs.declared.step.Arg.{Arg}
 use Rattle.payload_ops.specs.declared.step.PayloadStep.{PayloadStep}
 use Rattle.mlir_ir.specs.declared.tree.Idx.{Idx}
 use Rattle.mlir_ir.specs.declared.tree.Op.{Op}
-use Rattle.mlir_ir.specs.declared.tree.OpKind.{Forall, OpKind, Matmul, BatchMatmul, Fill, Transpose, Broadcast}
+use Rattle.mlir_ir.specs.declared.tree.OpId.{OpId}
+use Rattle.mlir_ir.specs.declared.tree.OpKind.{Forall, ParallelInsert, OpKind, Matmul, BatchMatmul, Fill, Transpose, Broadcast}
 use Rattle.mlir_ir.specs.declared.tree.Ty.{Ty}
 use Rattle.mlir_ir.specs.declared.tree.ValueId.{ValueId}
-use Rattle.mlir_meaning.specs.Grids.{settled, Fits, IsFull, Each, count_up}
-use Rattle.mlir_meaning.specs.Loops.{ForallHead, forall_state, insertions_of}
-use Rattle.mlir_meaning.specs.Meaning.{kind_meaning, run}
+use Rattle.mlir_meaning.specs.Grids.{settled, Fits, IsFull, Each, count_up, InBox, lies_in, same_point}
+use Rattle.mlir_meaning.specs.Loops.{ForallHead, forall_box, forall_state, insertions_of, output_of, starts}
+use Rattle.mlir_meaning.specs.Meaning.{kind_meaning, places_in, run}
 use Rattle.mlir_meaning.specs.Moves.{slice_of}
 use Rattle.mlir_meaning.specs.States.{State, made, width_of}
 use Rattle.mlir_meaning.specs.Structured.{generic_box, generic_element, generic_result, multiply_add, copying}
@@ -25,8 +26,10 @@ use Rattle.mlir_meaning.specs.declared.values.Datum.TheVariants.{Cells}
 use Rattle.mlir_meaning.specs.declared.values.Grid.{Grid}
 use Rattle.point_laws.specs.Boxes.{picks}
 use Rattle.point_laws.specs.Folds.{Combines}
-use Rattle.point_laws.specs.Tiles.{Cut, is_cut, cut_dims, tile_offsets, tile_sizes}
-use Rattle.region_laws.specs.Bodies.{Slice, TileBody, DoesTile, IsOutputOf, Names, sliced_body, noting_body, whole_body, slice_names, MeansTiled}
+use Rattle.point_laws.specs.Tiles.{Cut, counts, is_cut, cut_dims, tile_offsets, tile_sizes}
+use Rattle.region_laws.specs.Bodies.{Slice, TileBody, DoesTile, IsOutputOf, Names, tile_ops, insert_op, sliced_body, noting_body, whole_body, slice_names, MeansTiled}
+use Rattle.region_laws.specs.Among.{GivesAt, NotedAt, IsWritten, restarted, Turns, results_of, turns_op, IsNestAt, MakesTile}
+use Rattle.region_laws.specs.Spans.{AreSpans, span_offsets, span_sizes}
 use Rattle.region_laws.specs.Instances.{Instance, step_of, result_of, IsTypedInstance, FitsItsBox}
 use Rattle.region_laws.specs.Nests.{Level, TileLoop, AreNewVars, Begins, with_value, ended, noted}
 use Rattle.region_laws.specs.Operands.{CutsOutput, HasBox, IsMoved, IsRead, IsTile, inner_map, inner_maps, is_sliced, maps_of, operand_tile, operand_tiles}
@@ -158,6 +161,32 @@ ForallBegins = (N : ℕ → Bool) (u : State) (dims : List (ℕ × ℕ)) (vs : L
     TileLoop dims u h → N arg.0 ≡ false → AreNewVars (with_value N arg) vs →
     Begins N u dims vs arg (u.values outs.0) q (forall_state u h q)
 
+-- slices of the inputs and of the output and the tiled operation make the tile, whatever stands behind them
+abbrev pub TileIsMade : Type 0
+TileIsMade = (g : Instance) (ts q : List ℕ) (M : ℕ → Bool) (t : State) (b : TileBody) → DoesTile g ts q M t b →
+    (arg : ValueId) (x : Grid) (c : Slice) → IsOutputOf g ts q M t b arg x c → (n : Names) → M n.result.0 ≡ false →
+    MakesTile M t (tile_ops b arg c n) n.result g.width (started_tile (step_of g) g.box ts g.ds x q)
+
+-- with its insertion they make the tensor with the tile in it
+abbrev pub TileIsInserted : Type 0
+TileIsInserted = (g : Instance) (ts q : List ℕ) (M : ℕ → Bool) (t : State) (b : TileBody) → DoesTile g ts q M t b →
+    (arg : ValueId) (x : Grid) (c : Slice) → IsOutputOf g ts q M t b arg x c → (n : Names) → M n.result.0 ≡ false →
+    M n.inserted.0 ≡ false →
+    MakesTile M t (tile_ops b arg c n ++ (insert_op arg c n ∷ [])) n.inserted g.width
+    (sliced_tile (step_of g) g.box ts g.ds q x)
+
+-- an insertion into a shared output is noted, by the output's position
+abbrev pub InsertionIsNoted : Type 0
+InsertionIsNoted = (s : State) (id : OpId) (source dest : ValueId) (offsets sizes : List Idx) (rest : List Op) (k : ℕ) (width : ℕ)
+    (t : Grid) → s.values source.0 ≡ Cells width t → output_of s dest ≡ Some k →
+    run (record { id = id; results = []; kind = ParallelInsert source dest offsets sizes } ∷ rest) s
+    ≡ run rest (record {
+      values = s.values;
+      shared = s.shared;
+      inserts = s.inserts
+          ++ record { output = k; tile = t; offsets = places_in s.values offsets } ∷ [];
+    })
+
 -- NAMED OPERATIONS: the tile of each is of its kind
 abbrev pub MatmulTileIsMatmul : Type 0
 MatmulTileIsMatmul = (box ts q : List ℕ) (x y : Datum) (width : ℕ) (a b : ValueId) (fs : List (ValueId × Option Slice)) →
@@ -225,3 +254,46 @@ TileForallMeansGeneric = (g : Instance) (ts : List ℕ) → IsTypedInstance g �
     NotesTiles u h (cut_dims g.box ts) (λ q. picks g.ds (tile_offsets g.box ts q))
     (started_tile (step_of g) g.box ts g.ds g.out) inner →
     kind_meaning (Forall vs lower upper stride ((arg, ty, outs) ∷ []) inner) rs u ≡ made rs u (result_of g)
+
+-- AMONG OTHER VALUES
+-- a nest that carries several values gives the generic's result as the one into which its tiles go, whatever it does
+-- with the others, or fails
+abbrev pub TileForGivesGeneric : Type 0
+TileForGivesGeneric = (g : Instance) (ts : List ℕ) → IsTypedInstance g → IsFull g.out →
+    (one : List ℕ → Grid → Option Grid) → AddsRegions (picks g.ds) (step_of g) g.box g.out.extents ts one →
+    (N : ℕ → Bool) (u : State) (lower : ValueId) (l : Turns) (ls : List Turns) (currents : List ValueId) (k : ℕ)
+    (inner : List Op) → IsNestAt N u (cut_dims g.box ts) lower l ls currents k g.width g.out one inner →
+    CutsOutput (is_cut ts) g.box g.ds ⊎ Combines g.payload →
+    GivesAt k (result_of g) (results_of l.carried) u
+    (kind_meaning (turns_op lower l ls inner currents).kind (results_of l.carried) u)
+
+-- and so does a `scf.forall` with several shared outputs, where only the output's dimensions are cut
+abbrev pub TileForallGivesGeneric : Type 0
+TileForallGivesGeneric = (g : Instance) (ts : List ℕ) → IsTypedInstance g → IsFull g.out →
+    CutsOutput (is_cut ts) g.box g.ds →
+    (u : State) (h : ForallHead) (k : ℕ) (inner : List Op) (rs : List (ValueId × Ty)) → TileLoop (cut_dims g.box ts) u h →
+    slice_get (starts u.values h.shared) k ≡ Some (Cells g.width g.out) →
+    ((q : List ℕ) → InBox (counts (cut_dims g.box ts)) q → NotedAt k (picks g.ds (tile_offsets g.box ts q))
+    (started_tile (step_of g) g.box ts g.ds g.out q) (insertions_of (run inner (forall_state u h q)))) →
+    GivesAt k (result_of g) rs u (kind_meaning (Forall h.vars h.lower h.upper h.step h.shared inner) rs u)
+
+-- a shared output of which each element is written may start from any tensor of its extents
+abbrev pub CoveredOutputMayStartAnywhere : Type 0
+CoveredOutputMayStartAnywhere = (u : State) (h : ForallHead) (k width : ℕ) (v : ValueId) (old new : Grid)
+    (inner inner' : List Op) (rs : List (ValueId × Ty)) →
+    let h' : ForallHead = record h { shared = restarted k v h.shared } in
+    slice_get (starts u.values h.shared) k ≡ Some (Cells width old) → u.values v.0 ≡ Cells width new →
+    new.extents ≡ old.extents → IsFull old → IsFull new →
+    ((q : List ℕ) → InBox (forall_box u h) q →
+    insertions_of (run inner' (forall_state u h' q)) ≡ insertions_of (run inner (forall_state u h q))) →
+    ((e : List ℕ) → InBox old.extents e →
+    (q : List ℕ) × InBox (forall_box u h) q × IsWritten k e (insertions_of (run inner (forall_state u h q)))) →
+    kind_meaning (Forall h.vars h.lower h.upper h.step (restarted k v h.shared) inner') rs u
+    ≡ kind_meaning (Forall h.vars h.lower h.upper h.step h.shared inner) rs u
+
+-- where each variable is the offset on one axis, the regions are disjoint and cover: each element lies in that of one
+-- turn
+abbrev pub RegionsCover : Type 0
+RegionsCover = (box es : List ℕ) (axes : List (Option (ℕ × ℕ))) → AreSpans box es axes → (e : List ℕ) → InBox es e →
+    (q : List ℕ) × InBox box q × ((turns : List ℕ) → InBox box turns →
+    lies_in (span_offsets turns axes) (span_sizes turns es axes) e ≡ same_point q turns)

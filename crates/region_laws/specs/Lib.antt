@@ -7,4 +7,6 @@ pub mod Moved
 pub mod Captured
 pub mod Shifts
 pub mod Bodies
+pub mod Among
+pub mod Spans
 pub mod Laws

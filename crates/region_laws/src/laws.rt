@@ -2,6 +2,8 @@ ghost use Rattle.region_laws.specs.Laws.{TypedByAxes, OperandsHaveTiles, TilesHa
 ghost use Rattle.region_laws.specs.Laws.{IndicesMove, OthersStay, HoistedGives, PlacedGives, BodyDoesTile, BodyOfWholeOutput, BodyNotesTile, ForallBegins};
 ghost use Rattle.region_laws.specs.Laws.{MatmulTileIsMatmul, BatchMatmulTileIsBatchMatmul, FillTileIsFill, TransposeTileIsTranspose, BroadcastTileIsBroadcast};
 ghost use Rattle.region_laws.specs.Laws.{TileForMeansGeneric, TileForallMeansGeneric};
+ghost use Rattle.region_laws.specs.Laws.{TileIsMade, TileIsInserted, InsertionIsNoted};
+ghost use Rattle.region_laws.specs.Laws.{TileForGivesGeneric, TileForallGivesGeneric, CoveredOutputMayStartAnywhere, RegionsCover};
 
 // The functions here have no code: their contracts are the laws, over the definitions in `specs/`.
 
@@ -24,12 +26,15 @@ pub fn payloads_move_with_tiles()
     ensures placed { PlacedGives }
 {}
 
-/// The operations of a body, from the slices on, do one tile.
+/// The operations of a body, from the slices on, do one tile, also with others behind them.
 pub fn bodies_do_one_tile()
     ensures nest { BodyDoesTile }
     ensures whole { BodyOfWholeOutput }
     ensures at_once { BodyNotesTile }
     ensures begins { ForallBegins }
+    ensures made { TileIsMade }
+    ensures inserted { TileIsInserted }
+    ensures noted { InsertionIsNoted }
 {}
 
 /// The tile of a named operation is one of its kind.
@@ -45,4 +50,13 @@ pub fn named_tiles_are_named()
 pub fn loops_over_tiles_mean_the_whole()
     ensures nest { TileForMeansGeneric }
     ensures at_once { TileForallMeansGeneric }
+{}
+
+/// Loops that carry or share several values give the generic's result as the one into which its tiles go. A
+/// shared output that is covered may start from any tensor, and regions by the loop's variables cover it.
+pub fn loops_give_the_whole_among_others()
+    ensures nest { TileForGivesGeneric }
+    ensures at_once { TileForallGivesGeneric }
+    ensures starts { CoveredOutputMayStartAnywhere }
+    ensures regions { RegionsCover }
 {}

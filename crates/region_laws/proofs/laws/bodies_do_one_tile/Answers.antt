@@ -1,5 +1,6 @@
 use Rattle.region_laws.proofs.Foralls.{begins}
-use Rattle.region_laws.proofs.Stated.{does_tile, does_whole, notes_one}
+use Rattle.region_laws.proofs.Stated.{does_tile, does_whole, notes_one, makes_one, inserts_one}
+use Rattle.region_laws.proofs.Tilings.{is_noted}
 use Rattle.region_laws.proofs.laws.bodies_do_one_tile.Goals as goal
 
 pub returns-clause-nest : goal.returns-clause-nest
@@ -13,3 +14,12 @@ returns-clause-at_once c = notes_one
 
 pub returns-clause-begins : goal.returns-clause-begins
 returns-clause-begins c = begins
+
+pub returns-clause-made : goal.returns-clause-made
+returns-clause-made c = makes_one
+
+pub returns-clause-inserted : goal.returns-clause-inserted
+returns-clause-inserted c = inserts_one
+
+pub returns-clause-noted : goal.returns-clause-noted
+returns-clause-noted c = is_noted

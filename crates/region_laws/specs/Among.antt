@@ -1,0 +1,167 @@
+-- Loops that carry or share several values, of which one is made by tiles: the others are kept, or written by others.
+use Rattle.std.specs.Prelude.{◌≡◌, ℕ, zero, suc, ◌*◌, ◌<◌, ◌==◌, ◌&&◌, pos, Bool, true, false, List, [], ◌∷◌, ◌++◌, map, filter, length, slice_get, Option, Some, None, Result, Ok, Err, option_map, ◌⊎◌, ⊤}
+use Rattle.std.specs.List.{list_any}
+use Rattle.mlir_ir.specs.declared.tree.Op.{Op}
+use Rattle.mlir_ir.specs.declared.tree.OpId.{OpId}
+use Rattle.mlir_ir.specs.declared.tree.OpKind.{Yield}
+use Rattle.mlir_ir.specs.declared.tree.Ty.{Ty}
+use Rattle.mlir_ir.specs.declared.tree.ValueId.{ValueId}
+use Rattle.mlir_meaning.specs.Contexts.{ForLoop, for_op}
+use Rattle.mlir_meaning.specs.Grids.{lies_in, InBox}
+use Rattle.mlir_meaning.specs.Meaning.{run}
+use Rattle.mlir_meaning.specs.States.{State, Outcome, Goes, Ends, Fails, defines}
+use Rattle.mlir_meaning.specs.declared.answer.Fault.{Fault}
+use Rattle.mlir_meaning.specs.declared.answer.Fault.TheVariants.{Division}
+use Rattle.mlir_meaning.specs.declared.values.Datum.{Datum}
+use Rattle.mlir_meaning.specs.declared.values.Datum.TheVariants.{Cells, Number}
+use Rattle.mlir_meaning.specs.declared.values.Grid.{Grid}
+use Rattle.mlir_meaning.specs.declared.values.Insertion.{Insertion}
+use Rattle.point_laws.specs.Tiles.{counts}
+use Rattle.region_laws.specs.Nests.{Knows, HasNumber, AreNewVars, with_value}
+
+-- a loop fails, or gives its results, of which number k is r
+abbrev pub GivesAt : ℕ → Option Datum → List (ValueId × Ty) → State → Outcome → Type 0
+GivesAt k r rs s o = ((f : Fault) × (o ≡ Fails f)) ⊎ ((ds : List Datum) × (o ≡ defines rs s ds) × (slice_get ds k ≡ r))
+
+-- ONE `scf.forall`
+-- the insertions into the output of position k
+abbrev pub into : ℕ → List Insertion → List Insertion
+into k is = filter (λ (i : Insertion). i.output == k) is
+
+-- a body that doesn't fail leaves one tile for the output of position k, among any insertions into other outputs
+abbrev pub NotedAt : ℕ → List ℕ → Option Grid → Result (List Insertion) Fault → Type 0
+NotedAt k offsets made_tile (Err f) = ⊤
+NotedAt k offsets None (Ok is) = ⊥
+NotedAt k offsets (Some t) (Ok is) = into k is ≡ record { output = k; tile = t; offsets = offsets } ∷ []
+
+-- the output of position k starts from another value
+abbrev pub restarted : ℕ → ValueId → List (ValueId × Ty × ValueId) → List (ValueId × Ty × ValueId)
+restarted k v [] = []
+restarted zero v (c ∷ cs) = (c.0, c.1, v) ∷ cs
+restarted (suc k) v (c ∷ cs) = c ∷ restarted k v cs
+
+-- an insertion into the output of position k that has an element in its region
+abbrev pub writes : ℕ → List ℕ → Insertion → Bool
+writes k e i = (i.output == k) && lies_in i.offsets i.tile.extents e
+
+-- a body that doesn't fail leaves one
+abbrev pub IsWritten : ℕ → List ℕ → Result (List Insertion) Fault → Type 0
+IsWritten k e (Err f) = ⊤
+IsWritten k e (Ok is) = list_any (writes k e) is ≡ true
+
+-- NESTS OF `scf.for`
+-- a value that a loop carries: its name in the body, its type, and the loop's result
+pub record Carried : Type 0 where
+  pub arg : ValueId
+  pub ty : Ty
+  pub result : ValueId
+
+-- a loop of a nest, and the yield behind it in the body around it
+pub record Turns : Type 0 where
+  pub id : OpId
+  pub var : ValueId
+  pub upper : ValueId
+  pub step : ValueId
+  pub carried : List Carried
+  pub end : OpId
+
+abbrev pub args_of : List Carried → List ValueId
+args_of = map (λ (c : Carried). c.arg)
+
+abbrev pub results_of : List Carried → List (ValueId × Ty)
+results_of = map (λ (c : Carried). (c.result, c.ty))
+
+abbrev pub result_names : List Carried → List ValueId
+result_names = map (λ (c : Carried). c.result)
+
+abbrev pub started : List Carried → List ValueId → List (ValueId × Ty × ValueId)
+started (c ∷ cs) (v ∷ vs) = (c.arg, c.ty, v) ∷ started cs vs
+started _ _ = []
+
+-- `currents` are what it carries at its start
+abbrev pub turns_loop : ValueId → List ValueId → Turns → ForLoop
+turns_loop lower currents l = record {
+  id = l.id;
+  results = results_of l.carried;
+  head = record { var = l.var; lower = lower; upper = l.upper; step = l.step; carried = started l.carried currents };
+}
+
+abbrev pub yield_all : OpId → List ValueId → Op
+yield_all id vs = record { id = id; results = []; kind = Yield vs }
+
+-- a body that ends with what the loops in it carry, outermost loop first, around an innermost body
+abbrev pub turns_body : ValueId → List Turns → List Op → List ValueId → List Op
+turns_body lower [] inner currents = inner
+turns_body lower (l ∷ ls) inner currents = for_op (turns_loop lower currents l) (turns_body lower ls inner (args_of l.carried))
+    ∷ yield_all l.end (result_names l.carried) ∷ []
+
+abbrev pub turns_op : ValueId → Turns → List Turns → List Op → List ValueId → Op
+turns_op lower l ls inner currents = for_op (turns_loop lower currents l) (turns_body lower ls inner (args_of l.carried))
+
+-- the extent and the size of each loop are there; a size isn't 0
+abbrev pub TurnsBounded : (ℕ → Bool) → State → List (ℕ × ℕ) → List Turns → Type 0
+TurnsBounded N u [] [] = ⊤
+TurnsBounded N u (d ∷ ds) (l ∷ ls) = (0 < d.1) × HasNumber N u l.upper d.0 × HasNumber N u l.step d.1 × TurnsBounded N u ds ls
+TurnsBounded N u _ _ = ⊥
+
+abbrev pub nothing_known : ℕ → Bool
+nothing_known v = false
+
+-- each loop carries n values; its variable and its arguments are new, and its results are other values than each other
+abbrev pub AreNewTurns : ℕ → (ℕ → Bool) → List Turns → Type 0
+AreNewTurns n N [] = ⊤
+AreNewTurns n N (l ∷ ls) = (N l.var.0 ≡ false) × AreNewVars (with_value N l.var) (args_of l.carried)
+    × AreNewVars nothing_known (result_names l.carried) × (length l.carried ≡ n) × AreNewTurns n (with_value N l.var) ls
+
+-- in the body of a tile each variable is the tile's coordinate times its size
+abbrev pub TurnsAt : List (ℕ × ℕ) → List Turns → List ℕ → State → Type 0
+TurnsAt (d ∷ ds) (l ∷ ls) (k ∷ q) s = (s.values l.var.0 ≡ Number (pos (k * d.1))) × TurnsAt ds ls q s
+TurnsAt _ _ _ s = ⊤
+
+-- what the innermost body carries
+abbrev pub last_args : List Turns → List ValueId → List ValueId
+last_args [] currents = currents
+last_args (l ∷ ls) currents = last_args ls (args_of l.carried)
+
+-- a body that doesn't fail ends with n values, of which number k is this tensor
+abbrev pub EndsAt : ℕ → ℕ → ℕ → Option Grid → Outcome → Type 0
+EndsAt n k width o (Goes s) = ⊥
+EndsAt n k width o (Fails f) = ⊤
+EndsAt n k width None (Ends ds) = ⊥
+EndsAt n k width (Some g) (Ends ds) = (length ds ≡ n) × (slice_get ds k ≡ Some (Cells width g))
+
+-- in each state that comes to it the innermost body does the tile of its variables into value k, and with the others
+-- whatever it does
+abbrev pub RunsTilesAt : (ℕ → Bool) → State → List (ℕ × ℕ) → List Turns → List ValueId → ℕ → ℕ → List ℕ →
+    (List ℕ → Grid → Option Grid) → List Op → Type 0
+RunsTilesAt N u dims ls currents k width es one inner = (q : List ℕ) (s : State) (a : ValueId) (cells : List ℕ) →
+    InBox (counts dims) q → Knows N u s → TurnsAt dims ls q s → slice_get (last_args ls currents) k ≡ Some a →
+    s.values a.0 ≡ Cells width (record { extents = es; cells = cells }) →
+    EndsAt (length currents) k width (one q (record { extents = es; cells = cells })) (run inner s)
+
+-- A NEST OVER THE TILES OF VALUE k: the bounds are there, the loops' names are new, the innermost body does one tile, and
+-- the nest starts from the tensor
+pub record IsNestAt (N : ℕ → Bool) (u : State) (dims : List (ℕ × ℕ)) (lower : ValueId) (l : Turns) (ls : List Turns)
+    (currents : List ValueId) (k width : ℕ) (g : Grid) (one : List ℕ → Grid → Option Grid) (inner : List Op) : Type 0 where
+  pub low : HasNumber N u lower 0
+  pub bounds : TurnsBounded N u dims (l ∷ ls)
+  pub new : AreNewTurns (length currents) N (l ∷ ls)
+  pub runs : RunsTilesAt N u dims (l ∷ ls) currents k width g.extents one inner
+  pub current : ValueId
+  pub at : slice_get currents k ≡ Some current
+  pub start : u.values current.0 ≡ Cells width g
+
+-- OPERATIONS THAT MAKE A TILE
+-- what follows a tensor that may trap
+abbrev pub then_grid : Option Grid → (Grid → Outcome) → Outcome
+then_grid None rest = Fails Division
+then_grid (Some g) rest = rest g
+
+-- run first, before anything, they trap or go on with the tensor as value r, and keep the values of the set
+pub record MakesTile (M : ℕ → Bool) (t : State) (ops : List Op) (r : ValueId) (width : ℕ) (o : Option Grid) : Type 0 where
+  pub state : Grid → State
+  pub runs : (rest : List Op) → run (ops ++ rest) t ≡ then_grid o (λ g. run rest (state g))
+  pub knows : (g : Grid) → Knows M t (state g)
+  pub holds : (g : Grid) → (state g).values r.0 ≡ Cells width g
+  pub shared : (g : Grid) → (state g).shared ≡ t.shared
+  pub inserts : (g : Grid) → (state g).inserts ≡ t.inserts
