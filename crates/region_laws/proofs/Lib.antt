@@ -5,6 +5,7 @@ pub mod Lone
 pub mod Extents
 pub mod Outputs
 pub mod Inner
+pub mod Records
 pub mod Nests
 pub mod Foralls
 pub mod TileLoops

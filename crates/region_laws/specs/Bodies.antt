@@ -82,6 +82,21 @@ AreSlicesOf N s cut os ns seen (m ∷ ms) (x ∷ xs) (f ∷ fs) =
     × AreSlicesOf N s cut os ns (grown seen f.1) ms xs fs
 AreSlicesOf N s cut os ns seen _ _ _ = ⊥
 
+-- THE SAME, ONE RECORD AN INPUT: its map, what it holds, its name, and its slice if it isn't used whole
+pub record Input : Type 0 where
+  pub axes : MapShape
+  pub holds : Datum
+  pub name : ValueId
+  pub slice : Option Slice
+
+abbrev pub IsInput : (ℕ → Bool) → State → (ℕ → Bool) → List ℕ → List ℕ → (ℕ → Bool) → Input → Type 0
+IsInput N s cut os ns seen i = (N i.name.0 ≡ true) × (s.values i.name.0 ≡ i.holds)
+    × IsSliceOf N s cut os ns i.axes i.holds i.slice × IsNewSlice seen i.slice
+
+abbrev pub AreInputs : (ℕ → Bool) → State → (ℕ → Bool) → List ℕ → List ℕ → (ℕ → Bool) → List Input → Type 0
+AreInputs N s cut os ns seen [] = ⊤
+AreInputs N s cut os ns seen (i ∷ is) = IsInput N s cut os ns seen i × AreInputs N s cut os ns (grown seen i.slice) is
+
 -- WHAT THE BODY OF A TILE HAS BEHIND ITS SIZES AND OFFSETS: in t, where the values of M are known, the inputs'
 -- slices are those of their tiles, the captured values are those of the tile's payload, and the tile's payload
 -- gives what the payload gives at the point moved

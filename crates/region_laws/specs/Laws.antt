@@ -27,12 +27,12 @@ use Rattle.mlir_meaning.specs.declared.values.Grid.{Grid}
 use Rattle.point_laws.specs.Boxes.{picks}
 use Rattle.point_laws.specs.Folds.{Combines}
 use Rattle.point_laws.specs.Tiles.{Cut, counts, is_cut, cut_dims, tile_offsets, tile_sizes}
-use Rattle.region_laws.specs.Bodies.{Slice, TileBody, DoesTile, IsOutputOf, Names, tile_ops, insert_op, sliced_body, noting_body, whole_body, slice_names, MeansTiled}
+use Rattle.region_laws.specs.Bodies.{Input, AreInputs, AreSlicesOf, Slice, TileBody, DoesTile, IsOutputOf, Names, tile_ops, insert_op, sliced_body, noting_body, whole_body, slice_names, MeansTiled}
 use Rattle.region_laws.specs.Among.{GivesAt, NotedAt, IsWritten, restarted, Turns, results_of, turns_op, IsNestAt, MakesTile}
 use Rattle.region_laws.specs.Spans.{AreSpans, span_offsets, span_sizes}
 use Rattle.region_laws.specs.Instances.{Instance, step_of, result_of, IsTypedInstance, FitsItsBox}
 use Rattle.region_laws.specs.Nests.{Level, TileLoop, AreNewVars, Begins, with_value, ended, noted}
-use Rattle.region_laws.specs.Operands.{CutsOutput, HasBox, IsMoved, IsRead, IsTile, inner_map, inner_maps, is_sliced, maps_of, operand_tile, operand_tiles}
+use Rattle.region_laws.specs.Operands.{Operand, maps_in, olds, news, tiled_operands, AreRead, CutsOutput, HasBox, IsMoved, IsRead, IsTile, inner_map, inner_maps, is_sliced, maps_of, operand_tile, operand_tiles}
 use Rattle.region_laws.specs.Regions.{AddsRegions, moved, tile}
 use Rattle.region_laws.specs.Shifts.{Offset, tile_payload, tile_captured, IsOffset, Stays}
 use Rattle.region_laws.specs.Moved.{own_index}
@@ -51,6 +51,21 @@ abbrev pub OperandsHaveTiles : Type 0
 OperandsHaveTiles = (cut : ℕ → Bool) (box os ns : List ℕ) → Cut cut box os ns → (m : MapShape) (x : Datum) →
     IsRead box m x →
     IsTile os ns m x (inner_map cut m) (operand_tile cut os ns m x)
+
+-- from an operation's maps and operands there is one record an operand, with its tile
+abbrev pub OperandsAreRecords : Type 0
+OperandsAreRecords = (cut : ℕ → Bool) (box os ns : List ℕ) → Cut cut box os ns → (maps : List MapShape)
+    (operands : List Datum) → AreRead box maps operands →
+    let records : List Operand = tiled_operands cut os ns maps operands in
+    (maps_in records ≡ maps) × (olds records ≡ operands) × (news records ≡ operand_tiles cut os ns maps operands)
+    × Each (λ (o : Operand). IsTile os ns o.axes o.old (inner_map cut o.axes) o.new) records
+
+-- what is asked of a body's inputs, one record an input
+abbrev pub InputsAreRecords : Type 0
+InputsAreRecords = (N : ℕ → Bool) (s : State) (cut : ℕ → Bool) (os ns : List ℕ) (seen : ℕ → Bool) (inputs : List Input) →
+    AreInputs N s cut os ns seen inputs →
+    AreSlicesOf N s cut os ns seen (map (λ (i : Input). i.axes) inputs) (map (λ (i : Input). i.holds) inputs)
+    (map (λ (i : Input). (i.name, i.slice)) inputs)
 
 -- the box of the generic on the tiles is the tile
 abbrev pub TilesHaveBox : Type 0

@@ -1,8 +1,8 @@
-ghost use Rattle.region_laws.specs.Laws.{TypedByAxes, OperandsHaveTiles, TilesHaveBox, TiledGenericIsTile, TilesAddRegions, SliceOfWholeIsTile};
+ghost use Rattle.region_laws.specs.Laws.{TypedByAxes, OperandsHaveTiles, OperandsAreRecords, TilesHaveBox, TiledGenericIsTile, TilesAddRegions, SliceOfWholeIsTile};
 ghost use Rattle.region_laws.specs.Laws.{IndicesMove, OthersStay, HoistedGives, PlacedGives, BodyDoesTile, BodyOfWholeOutput, BodyNotesTile, ForallBegins};
 ghost use Rattle.region_laws.specs.Laws.{MatmulTileIsMatmul, BatchMatmulTileIsBatchMatmul, FillTileIsFill, TransposeTileIsTranspose, BroadcastTileIsBroadcast};
 ghost use Rattle.region_laws.specs.Laws.{TileForMeansGeneric, TileForallMeansGeneric};
-ghost use Rattle.region_laws.specs.Laws.{TileIsMade, TileIsInserted, InsertionIsNoted};
+ghost use Rattle.region_laws.specs.Laws.{InputsAreRecords, TileIsMade, TileIsInserted, InsertionIsNoted};
 ghost use Rattle.region_laws.specs.Laws.{TileForGivesGeneric, TileForallGivesGeneric, CoveredOutputMayStartAnywhere, RegionsCover};
 
 // The functions here have no code: their contracts are the laws, over the definitions in `specs/`.
@@ -11,6 +11,7 @@ ghost use Rattle.region_laws.specs.Laws.{TileForGivesGeneric, TileForallGivesGen
 pub fn generics_have_tiles()
     ensures typed { TypedByAxes }
     ensures operands { OperandsHaveTiles }
+    ensures records { OperandsAreRecords }
     ensures box_of { TilesHaveBox }
     ensures tile { TiledGenericIsTile }
     ensures adds { TilesAddRegions }
@@ -32,6 +33,7 @@ pub fn bodies_do_one_tile()
     ensures whole { BodyOfWholeOutput }
     ensures at_once { BodyNotesTile }
     ensures begins { ForallBegins }
+    ensures inputs { InputsAreRecords }
     ensures made { TileIsMade }
     ensures inserted { TileIsInserted }
     ensures noted { InsertionIsNoted }

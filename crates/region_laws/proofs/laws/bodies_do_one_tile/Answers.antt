@@ -1,4 +1,5 @@
 use Rattle.region_laws.proofs.Foralls.{begins}
+use Rattle.region_laws.proofs.Records.{inputs_are_records}
 use Rattle.region_laws.proofs.Stated.{does_tile, does_whole, notes_one, makes_one, inserts_one}
 use Rattle.region_laws.proofs.Tilings.{is_noted}
 use Rattle.region_laws.proofs.laws.bodies_do_one_tile.Goals as goal
@@ -14,6 +15,9 @@ returns-clause-at_once c = notes_one
 
 pub returns-clause-begins : goal.returns-clause-begins
 returns-clause-begins c = begins
+
+pub returns-clause-inputs : goal.returns-clause-inputs
+returns-clause-inputs c = inputs_are_records
 
 pub returns-clause-made : goal.returns-clause-made
 returns-clause-made c = makes_one
