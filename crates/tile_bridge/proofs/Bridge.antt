@@ -68,7 +68,7 @@ holds_extents (Some (Vector es w)) d i h = absurd i
 holds_extents None d i h = absurd i
 
 -- the output is a tensor of the payload's output
-record IsOutput (o : Option Ty) (d : Datum) (e : ElemTy) : Type 0 where
+pub record IsOutput (o : Option Ty) (d : Datum) (e : ElemTy) : Type 0 where
   operand : IsOperand o
   cells : d ≡ Cells (width_of d) (grid_of d)
   width : width_of d ≡ bits_of e
@@ -107,22 +107,24 @@ parallel_is Reduction false h = refl
 module _ (t : Types) (c : Constants) (wanted : List Ty) (rs : List (ValueId × Ty)) (g : Structured) (u : State) (typed : AreTyped t u)
     (types : is_typed t c wanted rs (kind_of g) ≡ true) (maps : breaks_maps t (kind_of g) ≡ false) (iterators : breaks_iterators (kind_of g) ≡ false)
     (extents : breaks_extents t wanted rs (kind_of g) ≡ false) (windows : breaks_windows t (kind_of g) ≡ false) where
-  pub is_instance : IsInstance g u
-  unfolding is_typed breaks_maps breaks_iterators breaks_extents breaks_windows fit_operands cover_dimensions match_output keeps_extents inputs_stay_in
-  is_instance =
-      let whole = and_parts _ _ types in
-      let parts = and_parts _ _ whole.0 in
+  pub output_there : IsOutput (t g.outs.0) (u.values g.outs.0) g.payload.out
+  unfolding is_typed
+  output_there =
+      let parts = and_parts _ _ (and_parts _ _ types).0 in
+      let payload = and_parts _ _ parts.1 in output_is (t g.outs.0) (u.values g.outs.0) g.payload.out (and_parts (has_elements (t g.outs.0) g.payload.out) _ payload.1).0 (typed g.outs.0)
+
+  -- what the rules say, and what the operands have
+  pub passes_there : Passes t u g.maps g.iterators g.ins g.outs
+  unfolding is_typed breaks_maps breaks_extents breaks_windows fit_operands cover_dimensions keeps_extents inputs_stay_in
+  passes_there =
+      let parts = and_parts _ _ (and_parts _ _ types).0 in
       let front = and_parts (length g.maps == suc (length g.ins)) _ parts.0 in
-      let payload = and_parts _ _ parts.1 in
-      let operands = and_parts (length g.ins == length g.payload.ins) _ payload.0 in
-      let rest = and_parts (has_elements (t g.outs.0) g.payload.out) _ payload.1 in
-      let steps = and_parts _ _ rest.1 in
+      let operands = and_parts (length g.ins == length g.payload.ins) _ (and_parts _ _ parts.1).0 in
       let made_maps = and_parts _ _ front.1 in
       let fit = and_parts _ _ (not_true _ maps) in
       let fits = and_parts _ _ fit.0 in
       let axes = and_parts _ _ (not_true _ extents) in
-      let out : IsOutput (t g.outs.0) (u.values g.outs.0) g.payload.out = output_is (t g.outs.0) (u.values g.outs.0) g.payload.out rest.0 (typed g.outs.0) in
-      let p : Passes t u g.maps g.iterators g.ins g.outs = record {
+      record {
         counted = eqb-true (length g.maps) (suc (length g.ins)) front.0;
         made = maps_each g.maps made_maps.1;
         inputs = fits.0;
@@ -131,8 +133,27 @@ module _ (t : Types) (c : Constants) (wanted : List Ty) (rs : List (ValueId × T
         agree = axes.0;
         windows = not_true _ windows;
         sized = inputs_sized t c u typed g.ins g.payload.ins (eqb-true (length g.ins) (length g.payload.ins) operands.0) operands.1;
-        out_sized = holds_extents (t g.outs.0) (u.values g.outs.0) out.operand (typed g.outs.0);
-      } in
+        out_sized = holds_extents (t g.outs.0) (u.values g.outs.0) output_there.operand (typed g.outs.0);
+      }
+
+  parallel_there : (d : ℕ) → d < length g.iterators → is_parallel (get_or g.iterators d Parallel) ≡ has (output_dimensions (output_map g.maps)) d
+  unfolding breaks_iterators match_output
+  parallel_there d l =
+      let z : 0 + d ≡ d = omega arith in
+      parallel_is (get_or g.iterators d Parallel) (has (output_dimensions (output_map g.maps)) d)
+      (sym (ap (λ k. is_iterator (get_or g.iterators d Parallel) (has (output_dimensions (output_map g.maps)) k)) z)
+      ∙ enumerated g.iterators 0 (λ (i : ℕ × Iter). is_iterator i.1 (has (output_dimensions (output_map g.maps)) i.0)) (not_true _ iterators) d l)
+
+  pub is_instance : IsInstance g u
+  unfolding is_typed
+  is_instance =
+      let parts = and_parts _ _ (and_parts _ _ types).0 in
+      let payload = and_parts _ _ parts.1 in
+      let operands = and_parts (length g.ins == length g.payload.ins) _ payload.0 in
+      let rest = and_parts (has_elements (t g.outs.0) g.payload.out) _ payload.1 in
+      let steps = and_parts _ _ rest.1 in
+      let p = passes_there in
+      let out = output_there in
       let same = maps_are t u g.maps g.iterators g.ins g.outs p in
       let ds_is = out_ds t u g.maps g.iterators g.ins g.outs p in
       record {
@@ -156,9 +177,5 @@ module _ (t : Types) (c : Constants) (wanted : List Ty) (rs : List (ValueId × T
         below = out.below;
         payload = steps.1;
         once = ap repeats ds_is ∙ out_once t u g.maps g.iterators g.ins g.outs p;
-        parallel = λ d l.
-            let z : 0 + d ≡ d = omega arith in
-            parallel_is (get_or g.iterators d Parallel) (has (output_dimensions (output_map g.maps)) d)
-            (sym (ap (λ k. is_iterator (get_or g.iterators d Parallel) (has (output_dimensions (output_map g.maps)) k)) z)
-            ∙ enumerated g.iterators 0 (λ (i : ℕ × Iter). is_iterator i.1 (has (output_dimensions (output_map g.maps)) i.0)) (not_true _ iterators) d l);
+        parallel = parallel_there;
       }
