@@ -17,8 +17,7 @@ operands_are_records cut box os ns c (m ∷ ms) (x ∷ xs) h =
       λ j. m ∷ r.0 j,
       λ j. x ∷ r.1 j,
       λ j. operand_tile cut os ns m x ∷ r.2 j,
-      operand_is cut box os ns c m x h.0,
-      r.3,
+      (operand_is cut box os ns c m x h.0, r.3),
     )
 operands_are_records cut box os ns c [] (x ∷ xs) h = absurd h
 operands_are_records cut box os ns c (m ∷ ms) [] h = absurd h
