@@ -101,7 +101,7 @@ inputs = (v 0, Some slice_a) ∷ (v 1, None) ∷ []
 abbrev body : List Op
 body =
     slice_ops inputs
-    ++ (slice_op (v 12) slice_out ∷ record { id = record { 0 = 20 }; results = (v 20, t4) ∷ []; kind = tiled_kind box ts ms ds its inputs (v 19) [] multiply_add }
+    ++ (slice_op (v 12) slice_out ∷ record { id = record { 0 = 20 }; results = (v 20, t4) ∷ []; kind = tiled_kind box (is_cut ts) ms ds its inputs (v 19) [] multiply_add }
     ∷ record { id = record { 0 = 21 }; results = []; kind = ParallelInsert (v 20) (v 12) slice_out.offsets slice_out.sizes } ∷ [])
 
 abbrev step : ℕ → List ℕ → Option ℕ
@@ -117,7 +117,7 @@ abbrev tile_body : TileBody
 tile_body = record {
   inputs = inputs;
   iterators = its;
-  kind = λ o. tiled_kind box ts ms ds its inputs o [] multiply_add;
+  kind = λ o. tiled_kind box (is_cut ts) ms ds its inputs o [] multiply_add;
   names = [];
   captured = [];
   payload = multiply_add;
@@ -159,10 +159,10 @@ notes (k ∷ []) h =
     let begin : Begins N u (cut_dims box ts) (v 11 ∷ []) (v 12) (Cells 32 out) (k ∷ []) s = begins N u (cut_dims box ts) (v 11 ∷ []) head.lower head.upper head.step (v 12) (v 2) t4 (k ∷ []) loop refl (refl, tt) in
     let two : min (4 - k * 2) 2 ≡ 2 = size_divides 2 2 k (omega arith) h.0 in
     let at_offset : k * 2 ≡ 0 + (1 * (k * 2) + (1 * 0 + 0)) = omega arith in
-    notes_one window ts (k ∷ []) M s tile_body (record {
+    notes_one window (is_cut ts) (tile_offsets box ts (k ∷ [])) (tile_sizes box ts (k ∷ [])) M s tile_body (record {
       typed = typed;
       rank = refl;
-      within = h;
+      within = tile_cut box ts (k ∷ []) h;
       body = record {
         slices = (
           refl,

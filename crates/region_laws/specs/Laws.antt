@@ -27,17 +27,17 @@ use Rattle.mlir_meaning.specs.declared.values.Grid.{Grid}
 use Rattle.point_laws.specs.Boxes.{picks}
 use Rattle.point_laws.specs.Folds.{Combines}
 use Rattle.point_laws.specs.Tiles.{Cut, counts, is_cut, cut_dims, tile_offsets, tile_sizes}
-use Rattle.region_laws.specs.Bodies.{Input, AreInputs, AreSlicesOf, Slice, TileBody, DoesTile, IsOutputOf, Names, tile_ops, insert_op, sliced_body, noting_body, whole_body, slice_names, MeansTiled}
+use Rattle.region_laws.specs.Bodies.{Input, AreInputs, AreSlicesOf, Slice, TileBody, DoesTile, IsOutputOf, Names, slice_ops, tiled_op, tile_ops, insert_op, sliced_body, noting_body, whole_body, slice_names, MeansTiled}
 use Rattle.region_laws.specs.Among.{GivesAt, NotedAt, IsWritten, restarted, Turns, results_of, turns_op, IsNestAt, MakesTile}
 use Rattle.region_laws.specs.Spans.{AreSpans, span_offsets, span_sizes}
 use Rattle.region_laws.specs.Instances.{Instance, step_of, result_of, IsTypedInstance, FitsItsBox}
 use Rattle.region_laws.specs.Nests.{Level, TileLoop, AreNewVars, Begins, with_value, ended, noted}
 use Rattle.region_laws.specs.Operands.{Operand, maps_in, olds, news, tiled_operands, AreRead, CutsOutput, HasBox, IsMoved, IsRead, IsTile, inner_map, inner_maps, is_sliced, maps_of, operand_tile, operand_tiles}
-use Rattle.region_laws.specs.Regions.{AddsRegions, moved, tile}
+use Rattle.region_laws.specs.Regions.{AddsRegions, moved, tile, tile_step, whole_step}
 use Rattle.region_laws.specs.Shifts.{Offset, tile_payload, tile_captured, IsOffset, Stays}
 use Rattle.region_laws.specs.Moved.{own_index}
 use Rattle.region_laws.specs.Captured.{hoisted, used, in_front, placed, IsBehind, IsNotCaptured}
-use Rattle.region_laws.specs.TileLoops.{IsNest, NotesTiles, nest_op, sliced_tile, started_tile, whole_tile}
+use Rattle.region_laws.specs.TileLoops.{region_tile, IsNest, NotesTiles, nest_op, sliced_tile, started_tile, whole_tile}
 use Rattle.mlir_ir.specs.declared.tree.Iter.TheVariants.{Parallel, Reduction}
 use Rattle.mlir_meaning.specs.Points.{select_map, place_of, kept}
 
@@ -98,6 +98,12 @@ SliceOfWholeIsTile = (step : ℕ → List ℕ → Option ℕ) (cut : ℕ → Boo
     tile (picks ds) step os ns (picks ds os) (picks ds ns) (grid cells)
     ≡ Some (slice_of (grid results) (picks ds os) (picks ds ns))
 
+-- where only the output's dimensions are cut, the slice of a generic's result is the tile of its region
+abbrev pub SliceOfResultIsTile : Type 0
+SliceOfResultIsTile = (g : Instance) → IsTypedInstance g → (cut : ℕ → Bool) (os ns : List ℕ) → Cut cut g.box os ns →
+    CutsOutput cut g.box g.ds → (r : Grid) → result_of g ≡ Some (Cells g.width r) →
+    region_tile g os ns g.out ≡ Some (slice_of r (picks g.ds os) (picks g.ds ns))
+
 -- PAYLOADS
 -- it gives what the payload gave; so payloads that are the same with their captured values in front give the same
 abbrev pub HoistedGives : Type 0
@@ -139,27 +145,28 @@ OthersStay = (payload : PayloadShape) (box os ns outer : List ℕ) → Fits box 
     Each (λ (s : PayloadStep). Stays os s.op) payload.steps →
     IsMoved os ns payload outer payload outer
 
--- BODIES
--- slices of the inputs and of the carried tensor, the tiled operation, its insertion and the yield do one tile
+-- BODIES, of a region of the box at offsets os with sizes ns
+-- slices of the inputs and of the carried tensor, the tiled operation, its insertion and the yield do its tile
 abbrev pub BodyDoesTile : Type 0
-BodyDoesTile = (g : Instance) (ts q : List ℕ) (M : ℕ → Bool) (t : State) (b : TileBody) → DoesTile g ts q M t b →
-    (arg : ValueId) (x : Grid) (c : Slice) → IsOutputOf g ts q M t b arg x c → (n : Names) → M n.result.0 ≡ false →
-    run (sliced_body b arg c n) t ≡ ended (Cells g.width) (sliced_tile (step_of g) g.box ts g.ds q x)
+BodyDoesTile = (g : Instance) (cut : ℕ → Bool) (os ns : List ℕ) (M : ℕ → Bool) (t : State) (b : TileBody) →
+    DoesTile g cut os ns M t b → (arg : ValueId) (x : Grid) (c : Slice) → IsOutputOf g os ns M t b arg x c →
+    (n : Names) → M n.result.0 ≡ false →
+    run (sliced_body b arg c n) t
+    ≡ ended (Cells g.width) (tile_step (picks g.ds) (step_of g) os ns (picks g.ds os) (picks g.ds ns) x)
 
 -- so do slices of the inputs and the tiled operation, where the carried tensor isn't sliced
 abbrev pub BodyOfWholeOutput : Type 0
-BodyOfWholeOutput = (g : Instance) (ts q : List ℕ) (M : ℕ → Bool) (t : State) (b : TileBody) → DoesTile g ts q M t b →
-    (arg : ValueId) (x : Grid) → M arg.0 ≡ true → t.values arg.0 ≡ Cells g.width x →
-    x.extents ≡ picks g.ds (tile_sizes g.box ts q) → (n : Names) →
-    run (whole_body b arg n) t ≡ ended (Cells g.width) (whole_tile (step_of g) g.box ts g.ds q x)
+BodyOfWholeOutput = (g : Instance) (cut : ℕ → Bool) (os ns : List ℕ) (M : ℕ → Bool) (t : State) (b : TileBody) →
+    DoesTile g cut os ns M t b → (arg : ValueId) (x : Grid) → M arg.0 ≡ true → t.values arg.0 ≡ Cells g.width x →
+    x.extents ≡ picks g.ds ns → (n : Names) →
+    run (whole_body b arg n) t ≡ ended (Cells g.width) (whole_step (picks g.ds) (step_of g) os ns x)
 
 -- and the body of a `scf.forall` notes the tile down
 abbrev pub BodyNotesTile : Type 0
-BodyNotesTile = (g : Instance) (ts q : List ℕ) (M : ℕ → Bool) (t : State) (b : TileBody) → DoesTile g ts q M t b →
-    (arg : ValueId) (x : Grid) (c : Slice) → IsOutputOf g ts q M t b arg x c → (n : Names) → M n.result.0 ≡ false →
-    t.shared ≡ arg ∷ [] → t.inserts ≡ [] →
-    insertions_of (run (noting_body b arg c n) t) ≡ noted (picks g.ds (tile_offsets g.box ts q))
-    (started_tile (step_of g) g.box ts g.ds x q)
+BodyNotesTile = (g : Instance) (cut : ℕ → Bool) (os ns : List ℕ) (M : ℕ → Bool) (t : State) (b : TileBody) →
+    DoesTile g cut os ns M t b → (arg : ValueId) (x : Grid) (c : Slice) → IsOutputOf g os ns M t b arg x c →
+    (n : Names) → M n.result.0 ≡ false → t.shared ≡ arg ∷ [] → t.inserts ≡ [] →
+    insertions_of (run (noting_body b arg c n) t) ≡ noted (picks g.ds os) (region_tile g os ns x)
 
 -- the state in which the body of a `scf.forall` begins
 abbrev pub ForallBegins : Type 0
@@ -178,17 +185,25 @@ ForallBegins = (N : ℕ → Bool) (u : State) (dims : List (ℕ × ℕ)) (vs : L
 
 -- slices of the inputs and of the output and the tiled operation make the tile, whatever stands behind them
 abbrev pub TileIsMade : Type 0
-TileIsMade = (g : Instance) (ts q : List ℕ) (M : ℕ → Bool) (t : State) (b : TileBody) → DoesTile g ts q M t b →
-    (arg : ValueId) (x : Grid) (c : Slice) → IsOutputOf g ts q M t b arg x c → (n : Names) → M n.result.0 ≡ false →
-    MakesTile M t (tile_ops b arg c n) n.result g.width (started_tile (step_of g) g.box ts g.ds x q)
+TileIsMade = (g : Instance) (cut : ℕ → Bool) (os ns : List ℕ) (M : ℕ → Bool) (t : State) (b : TileBody) →
+    DoesTile g cut os ns M t b → (arg : ValueId) (x : Grid) (c : Slice) → IsOutputOf g os ns M t b arg x c →
+    (n : Names) → M n.result.0 ≡ false →
+    MakesTile M t (tile_ops b arg c n) n.result g.width (region_tile g os ns x)
+
+-- so do slices of the inputs and the tiled operation, where the output's slice is there
+abbrev pub TileOfSliceIsMade : Type 0
+TileOfSliceIsMade = (g : Instance) (cut : ℕ → Bool) (os ns : List ℕ) (M : ℕ → Bool) (t : State) (b : TileBody) →
+    DoesTile g cut os ns M t b → (v : ValueId) (x : Grid) → M v.0 ≡ true →
+    t.values v.0 ≡ Cells g.width (slice_of x (picks g.ds os) (picks g.ds ns)) → (n : Names) → M n.result.0 ≡ false →
+    MakesTile M t (slice_ops b.inputs ++ (tiled_op b v n ∷ [])) n.result g.width (region_tile g os ns x)
 
 -- with its insertion they make the tensor with the tile in it
 abbrev pub TileIsInserted : Type 0
-TileIsInserted = (g : Instance) (ts q : List ℕ) (M : ℕ → Bool) (t : State) (b : TileBody) → DoesTile g ts q M t b →
-    (arg : ValueId) (x : Grid) (c : Slice) → IsOutputOf g ts q M t b arg x c → (n : Names) → M n.result.0 ≡ false →
-    M n.inserted.0 ≡ false →
+TileIsInserted = (g : Instance) (cut : ℕ → Bool) (os ns : List ℕ) (M : ℕ → Bool) (t : State) (b : TileBody) →
+    DoesTile g cut os ns M t b → (arg : ValueId) (x : Grid) (c : Slice) → IsOutputOf g os ns M t b arg x c →
+    (n : Names) → M n.result.0 ≡ false → M n.inserted.0 ≡ false →
     MakesTile M t (tile_ops b arg c n ++ (insert_op arg c n ∷ [])) n.inserted g.width
-    (sliced_tile (step_of g) g.box ts g.ds q x)
+    (tile_step (picks g.ds) (step_of g) os ns (picks g.ds os) (picks g.ds ns) x)
 
 -- an insertion into a shared output is noted, by the output's position
 abbrev pub InsertionIsNoted : Type 0
@@ -204,39 +219,39 @@ InsertionIsNoted = (s : State) (id : OpId) (source dest : ValueId) (offsets size
 
 -- NAMED OPERATIONS: the tile of each is of its kind
 abbrev pub MatmulTileIsMatmul : Type 0
-MatmulTileIsMatmul = (box ts q : List ℕ) (x y : Datum) (width : ℕ) (a b : ValueId) (fs : List (ValueId × Option Slice)) →
+MatmulTileIsMatmul = (box : List ℕ) (cut : ℕ → Bool) (os ns : List ℕ) (x y : Datum) (width : ℕ) (a b : ValueId) (fs : List (ValueId × Option Slice)) →
     slice_names fs ≡ a ∷ b ∷ [] → length box ≡ 3 →
-    MeansTiled box ts (select_map 3 (0 ∷ 2 ∷ []) ∷ select_map 3 (2 ∷ 1 ∷ []) ∷ []) (0 ∷ 1 ∷ []) (x ∷ y ∷ []) width
-    (Parallel ∷ Parallel ∷ Reduction ∷ []) q fs [] (multiply_add (width_of x) width) (λ outs. Matmul a b outs)
+    MeansTiled box cut os ns (select_map 3 (0 ∷ 2 ∷ []) ∷ select_map 3 (2 ∷ 1 ∷ []) ∷ []) (0 ∷ 1 ∷ []) (x ∷ y ∷ []) width
+    (Parallel ∷ Parallel ∷ Reduction ∷ []) fs [] (multiply_add (width_of x) width) (λ outs. Matmul a b outs)
 
 abbrev pub BatchMatmulTileIsBatchMatmul : Type 0
-BatchMatmulTileIsBatchMatmul = (box ts q : List ℕ) (x y : Datum) (width : ℕ) (a b : ValueId)
+BatchMatmulTileIsBatchMatmul = (box : List ℕ) (cut : ℕ → Bool) (os ns : List ℕ) (x y : Datum) (width : ℕ) (a b : ValueId)
     (fs : List (ValueId × Option Slice)) → slice_names fs ≡ a ∷ b ∷ [] → length box ≡ 4 →
-    MeansTiled box ts (select_map 4 (0 ∷ 1 ∷ 3 ∷ []) ∷ select_map 4 (0 ∷ 3 ∷ 2 ∷ []) ∷ []) (0 ∷ 1 ∷ 2 ∷ []) (x ∷ y ∷ [])
-    width (Parallel ∷ Parallel ∷ Parallel ∷ Reduction ∷ []) q fs [] (multiply_add (width_of x) width)
+    MeansTiled box cut os ns (select_map 4 (0 ∷ 1 ∷ 3 ∷ []) ∷ select_map 4 (0 ∷ 3 ∷ 2 ∷ []) ∷ []) (0 ∷ 1 ∷ 2 ∷ []) (x ∷ y ∷ [])
+    width (Parallel ∷ Parallel ∷ Parallel ∷ Reduction ∷ []) fs [] (multiply_add (width_of x) width)
     (λ outs. BatchMatmul a b outs)
 
 -- a copy into all dimensions, from those that the input's map selects
-abbrev pub MeansCopy : List ℕ → List ℕ → List ℕ → Datum → ℕ → List ℕ → List (ValueId × Option Slice) →
+abbrev pub MeansCopy : List ℕ → (ℕ → Bool) → List ℕ → List ℕ → List ℕ → Datum → ℕ → List (ValueId × Option Slice) →
     (ValueId → OpKind) → Type 0
-MeansCopy box ts ds x width q fs kind =
-    MeansTiled box ts (select_map (length box) ds ∷ []) (count_up 0 (length box)) (x ∷ []) width
-    (replicate (length box) Parallel) q fs [] (copying width) kind
+MeansCopy box cut os ns ds x width fs kind =
+    MeansTiled box cut os ns (select_map (length box) ds ∷ []) (count_up 0 (length box)) (x ∷ []) width
+    (replicate (length box) Parallel) fs [] (copying width) kind
 
 abbrev pub FillTileIsFill : Type 0
-FillTileIsFill = (box ts q : List ℕ) (x : Datum) (width : ℕ) (v : ValueId) (fs : List (ValueId × Option Slice)) →
-    slice_names fs ≡ v ∷ [] → MeansCopy box ts [] x width q fs (λ outs. Fill v outs)
+FillTileIsFill = (box : List ℕ) (cut : ℕ → Bool) (os ns : List ℕ) (x : Datum) (width : ℕ) (v : ValueId) (fs : List (ValueId × Option Slice)) →
+    slice_names fs ≡ v ∷ [] → MeansCopy box cut os ns [] x width fs (λ outs. Fill v outs)
 
 abbrev pub TransposeTileIsTranspose : Type 0
-TransposeTileIsTranspose = (box ts q order : List ℕ) (x : Datum) (width : ℕ) (v : ValueId)
+TransposeTileIsTranspose = (box : List ℕ) (cut : ℕ → Bool) (os ns order : List ℕ) (x : Datum) (width : ℕ) (v : ValueId)
     (fs : List (ValueId × Option Slice)) → slice_names fs ≡ v ∷ [] → length order ≡ length box →
-    MeansCopy box ts (map (λ axis. place_of axis 0 order) (count_up 0 (length box))) x width q fs
+    MeansCopy box cut os ns (map (λ axis. place_of axis 0 order) (count_up 0 (length box))) x width fs
     (λ outs. Transpose v outs order)
 
 abbrev pub BroadcastTileIsBroadcast : Type 0
-BroadcastTileIsBroadcast = (box ts q added : List ℕ) (x : Datum) (width : ℕ) (v : ValueId)
+BroadcastTileIsBroadcast = (box : List ℕ) (cut : ℕ → Bool) (os ns added : List ℕ) (x : Datum) (width : ℕ) (v : ValueId)
     (fs : List (ValueId × Option Slice)) → slice_names fs ≡ v ∷ [] →
-    MeansCopy box ts (kept added 0 (count_up 0 (length box))) x width q fs (λ outs. Broadcast v outs added)
+    MeansCopy box cut os ns (kept added 0 (count_up 0 (length box))) x width fs (λ outs. Broadcast v outs added)
 
 -- LOOPS
 -- a nest of `scf.for` over the tiles means what the generic means, where only the output's dimensions are cut, or

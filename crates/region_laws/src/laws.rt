@@ -2,7 +2,7 @@ ghost use Rattle.region_laws.specs.Laws.{TypedByAxes, OperandsHaveTiles, Operand
 ghost use Rattle.region_laws.specs.Laws.{IndicesMove, OthersStay, HoistedGives, PlacedGives, BodyDoesTile, BodyOfWholeOutput, BodyNotesTile, ForallBegins};
 ghost use Rattle.region_laws.specs.Laws.{MatmulTileIsMatmul, BatchMatmulTileIsBatchMatmul, FillTileIsFill, TransposeTileIsTranspose, BroadcastTileIsBroadcast};
 ghost use Rattle.region_laws.specs.Laws.{TileForMeansGeneric, TileForallMeansGeneric};
-ghost use Rattle.region_laws.specs.Laws.{InputsAreRecords, TileIsMade, TileIsInserted, InsertionIsNoted};
+ghost use Rattle.region_laws.specs.Laws.{InputsAreRecords, TileIsMade, TileOfSliceIsMade, TileIsInserted, InsertionIsNoted, SliceOfResultIsTile};
 ghost use Rattle.region_laws.specs.Laws.{TileForGivesGeneric, TileForallGivesGeneric, CoveredOutputMayStartAnywhere, RegionsCover};
 
 // The functions here have no code: their contracts are the laws, over the definitions in `specs/`.
@@ -16,6 +16,7 @@ pub fn generics_have_tiles()
     ensures tile { TiledGenericIsTile }
     ensures adds { TilesAddRegions }
     ensures slice { SliceOfWholeIsTile }
+    ensures result { SliceOfResultIsTile }
 {}
 
 /// The payload on a tile gives at a point what the payload gives at the point moved by the offsets. A payload
@@ -35,6 +36,7 @@ pub fn bodies_do_one_tile()
     ensures begins { ForallBegins }
     ensures inputs { InputsAreRecords }
     ensures made { TileIsMade }
+    ensures of_slice { TileOfSliceIsMade }
     ensures inserted { TileIsInserted }
     ensures noted { InsertionIsNoted }
 {}

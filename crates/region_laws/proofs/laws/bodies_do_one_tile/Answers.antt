@@ -1,6 +1,6 @@
 use Rattle.region_laws.proofs.Foralls.{begins}
 use Rattle.region_laws.proofs.Records.{inputs_are_records}
-use Rattle.region_laws.proofs.Stated.{does_tile, does_whole, notes_one, makes_one, inserts_one}
+use Rattle.region_laws.proofs.Stated.{does_tile, does_whole, notes_one, makes_one, makes_of_slice, inserts_one}
 use Rattle.region_laws.proofs.Tilings.{is_noted}
 use Rattle.region_laws.proofs.laws.bodies_do_one_tile.Goals as goal
 
@@ -21,6 +21,9 @@ returns-clause-inputs c = inputs_are_records
 
 pub returns-clause-made : goal.returns-clause-made
 returns-clause-made c = makes_one
+
+pub returns-clause-of_slice : goal.returns-clause-of_slice
+returns-clause-of_slice c = makes_of_slice
 
 pub returns-clause-inserted : goal.returns-clause-inserted
 returns-clause-inserted c = inserts_one

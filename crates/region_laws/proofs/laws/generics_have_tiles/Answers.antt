@@ -1,7 +1,7 @@
 use Rattle.region_laws.proofs.Extents.{tile_box_is}
 use Rattle.region_laws.proofs.Operands.{operand_is}
 use Rattle.region_laws.proofs.Records.{operands_are_records}
-use Rattle.region_laws.proofs.Sliced.{slice_of_whole}
+use Rattle.region_laws.proofs.Sliced.{slice_of_whole, slice_of_result}
 use Rattle.region_laws.proofs.Stated.{tiled_generic, typed_instance}
 use Rattle.region_laws.proofs.TileLoops.{tiles_add}
 use Rattle.region_laws.proofs.laws.generics_have_tiles.Goals as goal
@@ -26,3 +26,6 @@ returns-clause-adds c = tiles_add
 
 pub returns-clause-slice : goal.returns-clause-slice
 returns-clause-slice c = slice_of_whole
+
+pub returns-clause-result : goal.returns-clause-result
+returns-clause-result c = slice_of_result
