@@ -24,9 +24,9 @@ use Rattle.mlir_meaning.proofs.States.{set_same, set_other, apart}
 use Rattle.point_laws.specs.Boxes.{picks}
 use Rattle.point_laws.specs.Tiles.{tile_box, tile_count, counts, cut_dims, tile_offsets, tile_sizes}
 use Rattle.point_laws.proofs.Lists.{or_right}
-use Rattle.region_laws.specs.Among.{GivesAt, Turns, Carried, args_of, results_of, result_names, started, turns_loop, turns_body, turns_op, yield_all, nothing_known, TurnsBounded, AreNewTurns, TurnsAt, last_args, EndsAt, IsNestAt}
+use Rattle.region_laws.specs.Among.{GivesAt, nothing_known, TurnsBounded, AreNewTurns, TurnsAt, last_args, EndsAt, IsNestAt}
 use Rattle.region_laws.specs.Instances.{Instance, step_of, result_of}
-use Rattle.region_laws.specs.Nests.{Knows, HasNumber, with_value, AreNewVars}
+use Rattle.region_laws.specs.Nests.{Knows, HasNumber, with_value, AreNewVars, Turns, Carried, args_of, results_of, result_names, started, turns_loop, turns_body, turns_op, yield_all}
 use Rattle.region_laws.specs.Regions.{cell, in_turn, AddsRegions}
 use Rattle.region_laws.specs.Laws.{TileForGivesGeneric}
 use Rattle.region_laws.proofs.Foralls.{set_all_keeps, with_self}

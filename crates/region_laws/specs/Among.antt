@@ -17,7 +17,7 @@ use Rattle.mlir_meaning.specs.declared.values.Datum.TheVariants.{Cells, Number}
 use Rattle.mlir_meaning.specs.declared.values.Grid.{Grid}
 use Rattle.mlir_meaning.specs.declared.values.Insertion.{Insertion}
 use Rattle.point_laws.specs.Tiles.{counts}
-use Rattle.region_laws.specs.Nests.{Knows, HasNumber, AreNewVars, with_value}
+use Rattle.region_laws.specs.Nests.{Knows, HasNumber, AreNewVars, with_value, Carried, Turns, args_of, result_names}
 
 -- a loop fails, or gives its results, of which number k is r
 abbrev pub GivesAt : ℕ → Option Datum → List (ValueId × Ty) → State → Outcome → Type 0
@@ -50,54 +50,6 @@ IsWritten k e (Err f) = ⊤
 IsWritten k e (Ok is) = list_any (writes k e) is ≡ true
 
 -- NESTS OF `scf.for`
--- a value that a loop carries: its name in the body, its type, and the loop's result
-pub record Carried : Type 0 where
-  pub arg : ValueId
-  pub ty : Ty
-  pub result : ValueId
-
--- a loop of a nest, and the yield behind it in the body around it
-pub record Turns : Type 0 where
-  pub id : OpId
-  pub var : ValueId
-  pub upper : ValueId
-  pub step : ValueId
-  pub carried : List Carried
-  pub end : OpId
-
-abbrev pub args_of : List Carried → List ValueId
-args_of = map (λ (c : Carried). c.arg)
-
-abbrev pub results_of : List Carried → List (ValueId × Ty)
-results_of = map (λ (c : Carried). (c.result, c.ty))
-
-abbrev pub result_names : List Carried → List ValueId
-result_names = map (λ (c : Carried). c.result)
-
-abbrev pub started : List Carried → List ValueId → List (ValueId × Ty × ValueId)
-started (c ∷ cs) (v ∷ vs) = (c.arg, c.ty, v) ∷ started cs vs
-started _ _ = []
-
--- `currents` are what it carries at its start
-abbrev pub turns_loop : ValueId → List ValueId → Turns → ForLoop
-turns_loop lower currents l = record {
-  id = l.id;
-  results = results_of l.carried;
-  head = record { var = l.var; lower = lower; upper = l.upper; step = l.step; carried = started l.carried currents };
-}
-
-abbrev pub yield_all : OpId → List ValueId → Op
-yield_all id vs = record { id = id; results = []; kind = Yield vs }
-
--- a body that ends with what the loops in it carry, outermost loop first, around an innermost body
-abbrev pub turns_body : ValueId → List Turns → List Op → List ValueId → List Op
-turns_body lower [] inner currents = inner
-turns_body lower (l ∷ ls) inner currents = for_op (turns_loop lower currents l) (turns_body lower ls inner (args_of l.carried))
-    ∷ yield_all l.end (result_names l.carried) ∷ []
-
-abbrev pub turns_op : ValueId → Turns → List Turns → List Op → List ValueId → Op
-turns_op lower l ls inner currents = for_op (turns_loop lower currents l) (turns_body lower ls inner (args_of l.carried))
-
 -- the extent and the size of each loop are there; a size isn't 0
 abbrev pub TurnsBounded : (ℕ → Bool) → State → List (ℕ × ℕ) → List Turns → Type 0
 TurnsBounded N u [] [] = ⊤

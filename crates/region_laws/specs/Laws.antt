@@ -28,10 +28,10 @@ use Rattle.point_laws.specs.Boxes.{picks}
 use Rattle.point_laws.specs.Folds.{Combines}
 use Rattle.point_laws.specs.Tiles.{Cut, counts, is_cut, cut_dims, tile_offsets, tile_sizes}
 use Rattle.region_laws.specs.Bodies.{Input, AreInputs, AreSlicesOf, Slice, TileBody, DoesTile, IsOutputOf, Names, slice_ops, tiled_op, tile_ops, insert_op, sliced_body, noting_body, whole_body, slice_names, MeansTiled}
-use Rattle.region_laws.specs.Among.{GivesAt, NotedAt, IsWritten, restarted, Turns, results_of, turns_op, IsNestAt, MakesTile}
+use Rattle.region_laws.specs.Among.{GivesAt, NotedAt, IsWritten, restarted, IsNestAt, MakesTile}
 use Rattle.region_laws.specs.Spans.{AreSpans, span_offsets, span_sizes}
 use Rattle.region_laws.specs.Instances.{Instance, step_of, result_of, IsTypedInstance, FitsItsBox}
-use Rattle.region_laws.specs.Nests.{Level, TileLoop, AreNewVars, Begins, with_value, ended, noted}
+use Rattle.region_laws.specs.Nests.{Level, TileLoop, AreNewVars, Begins, with_value, ended, noted, Turns, results_of, turns_op}
 use Rattle.region_laws.specs.Operands.{Operand, maps_in, olds, news, tiled_operands, AreRead, CutsOutput, HasBox, IsMoved, IsRead, IsTile, inner_map, inner_maps, is_sliced, maps_of, operand_tile, operand_tiles}
 use Rattle.region_laws.specs.Regions.{AddsRegions, moved, tile, tile_step, whole_step}
 use Rattle.region_laws.specs.Shifts.{Offset, tile_payload, tile_captured, IsOffset, Stays}
