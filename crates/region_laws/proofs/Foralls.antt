@@ -1,6 +1,8 @@
 -- A `scf.forall` over tiles: every tile from the shared output's start, and then the insertions in turn.
-use Rattle.std.proofs.Common.{◌≡◌, ℕ, ◌+◌, ◌-◌, ◌*◌, ◌/◌, ◌==◌, ◌||◌, pos, ◌-ℤ◌, Bool, true, List, [], ◌∷◌, map, fold, Option, Some, None, refl, ap, sym, ◌∙◌, add-zero, zero-add}
-use Rattle.std.specs.Prelude.{Result, Ok, Err, option_map, option_and_then}
+use Rattle.std.proofs.Common.{◌≡◌, ℕ, zero, suc, ◌+◌, ◌-◌, ◌*◌, ◌/◌, ◌==◌, ◌||◌, pos, ◌-ℤ◌, Bool, true, List, [], ◌∷◌, map, fold, Option, Some, None, refl, ap, sym, ◌∙◌, add-zero, zero-add}
+use Rattle.std.specs.Prelude.{Result, Ok, Err, option_map, option_and_then, slice_get}
+use Rattle.std.proofs.lemmas.Option.{same_Some}
+use Rattle.payload_laws.proofs.Fitted.{slice_get-none}
 use Rattle.std.proofs.lemmas.Bool.{eq-eqb}
 use Rattle.std.proofs.lemmas.List.Folds.{fold_stays}
 use Rattle.mlir_ir.specs.declared.tree.Ty.{Ty}
@@ -53,7 +55,15 @@ set_all_keeps N (v ∷ vs) (x ∷ xs) e w new is =
 pub with_self : (N : ℕ → Bool) (v : ValueId) → with_value N v v.0 ≡ true
 with_self N v = λ j. eq-eqb v.0 v.0 refl j || N v.0
 
-vars_are : (N : ℕ → Bool) (ds : List (ℕ × ℕ)) (vs : List ValueId) (q : List ℕ) (s : State) (e : ℕ → Datum) → AreNewVars N vs → s.values ≡ set_all e vs (numbers_of ds q) → VarsAt ds vs q s
+-- values that are set together, under names that are other than each other
+pub set_all_at : (N : ℕ → Bool) (vs : List ValueId) (ds : List Datum) (e : ℕ → Datum) (k : ℕ) (v : ValueId) (d : Datum) → AreNewVars N vs → slice_get vs k ≡ Some v → slice_get ds k ≡ Some d → set_all e vs ds v.0 ≡ d
+set_all_at N [] ds e k v d new h g = absurd (slice_get-none k v h)
+set_all_at N (w ∷ vs) [] e k v d new h g = absurd (slice_get-none k d g)
+set_all_at N (w ∷ vs) (x ∷ ds) e zero v d new h g =
+    (λ j. set_all (set e w.0 x) vs ds (sym (same_Some w v h) j).0) ∙ set_all_keeps (with_value N w) vs ds (set e w.0 x) w.0 new.1 (with_self N w) ∙ set_same e w.0 x ∙ same_Some x d g
+set_all_at N (w ∷ vs) (x ∷ ds) e (suc k) v d new h g = set_all_at (with_value N w) vs ds (set e w.0 x) k v d new.1 h g
+
+pub vars_are : (N : ℕ → Bool) (ds : List (ℕ × ℕ)) (vs : List ValueId) (q : List ℕ) (s : State) (e : ℕ → Datum) → AreNewVars N vs → s.values ≡ set_all e vs (numbers_of ds q) → VarsAt ds vs q s
 vars_are N [] vs q s e new same = tt
 vars_are N (d ∷ ds) [] q s e new same = tt
 vars_are N (d ∷ ds) (v ∷ vs) [] s e new same = tt

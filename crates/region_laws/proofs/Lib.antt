@@ -25,6 +25,8 @@ pub mod Named
 pub mod Shared
 pub mod Spans
 pub mod NestsAt
+pub mod Begins
 pub mod ExampleRaggedSum
 pub mod ExampleWindow
+pub mod ExampleTwoOutputs
 pub mod Stated

@@ -3,8 +3,7 @@ use Rattle.std.proofs.Common.{◌≡◌, ℕ, zero, suc, ◌+◌, ◌-◌, ◌*�
 use Rattle.std.specs.Prelude.{option_map, option_and_then, slice_get, if◌then◌else◌}
 use Rattle.std.proofs.lemmas.Bool.{eq-eqb}
 use Rattle.std.proofs.lemmas.List.{length-map}
-use Rattle.std.proofs.lemmas.Option.{same_Some, slice_get_within, slice_get-map}
-use Rattle.payload_laws.proofs.Fitted.{slice_get-none}
+use Rattle.std.proofs.lemmas.Option.{slice_get_within, slice_get-map}
 use Rattle.mlir_ir.specs.declared.tree.Op.{Op}
 use Rattle.mlir_ir.specs.declared.tree.Ty.{Ty}
 use Rattle.mlir_ir.specs.declared.tree.ValueId.{ValueId}
@@ -29,7 +28,7 @@ use Rattle.region_laws.specs.Instances.{Instance, step_of, result_of}
 use Rattle.region_laws.specs.Nests.{Knows, HasNumber, with_value, AreNewVars, Turns, Carried, args_of, results_of, result_names, started, turns_loop, turns_body, turns_op, yield_all}
 use Rattle.region_laws.specs.Regions.{cell, in_turn, AddsRegions}
 use Rattle.region_laws.specs.Laws.{TileForGivesGeneric}
-use Rattle.region_laws.proofs.Foralls.{set_all_keeps, with_self}
+use Rattle.region_laws.proofs.Foralls.{set_all_keeps, set_all_at}
 use Rattle.region_laws.proofs.Nests.{each_turn, each_tile, in_rows}
 use Rattle.region_laws.proofs.Steps.{grid}
 use Rattle.region_laws.proofs.TileLoops.{ByCells, in_cells, map_cells, tiles_in_turn}
@@ -39,14 +38,6 @@ there : {A : Type 0} (xs : List A) (k : ℕ) → k < length xs → (x : A) × (s
 there [] k l = absurd (omega arith)
 there (x ∷ xs) zero l = (x, refl)
 there (x ∷ xs) (suc k) l = there xs k (omega arith)
-
--- values that are set together, under names that are other than each other
-set_all_at : (N : ℕ → Bool) (vs : List ValueId) (ds : List Datum) (e : ℕ → Datum) (k : ℕ) (v : ValueId) (d : Datum) → AreNewVars N vs → slice_get vs k ≡ Some v → slice_get ds k ≡ Some d → set_all e vs ds v.0 ≡ d
-set_all_at N [] ds e k v d new h g = absurd (slice_get-none k v h)
-set_all_at N (w ∷ vs) [] e k v d new h g = absurd (slice_get-none k d g)
-set_all_at N (w ∷ vs) (x ∷ ds) e zero v d new h g =
-    (λ j. set_all (set e w.0 x) vs ds (sym (same_Some w v h) j).0) ∙ set_all_keeps (with_value N w) vs ds (set e w.0 x) w.0 new.1 (with_self N w) ∙ set_same e w.0 x ∙ same_Some x d g
-set_all_at N (w ∷ vs) (x ∷ ds) e (suc k) v d new h g = set_all_at (with_value N w) vs ds (set e w.0 x) k v d new.1 h g
 
 starts_are : (e : ℕ → Datum) (cs : List Carried) (vs : List ValueId) → length cs ≡ length vs → starts e (started cs vs) ≡ values_in e vs
 starts_are e [] [] l = refl

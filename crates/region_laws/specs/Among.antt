@@ -8,6 +8,7 @@ use Rattle.mlir_ir.specs.declared.tree.Ty.{Ty}
 use Rattle.mlir_ir.specs.declared.tree.ValueId.{ValueId}
 use Rattle.mlir_meaning.specs.Contexts.{ForLoop, for_op}
 use Rattle.mlir_meaning.specs.Grids.{lies_in, InBox}
+use Rattle.mlir_meaning.specs.Loops.{ForallHead, arguments, starts}
 use Rattle.mlir_meaning.specs.Meaning.{run}
 use Rattle.mlir_meaning.specs.States.{State, Outcome, Goes, Ends, Fails, defines}
 use Rattle.mlir_meaning.specs.declared.answer.Fault.{Fault}
@@ -17,13 +18,23 @@ use Rattle.mlir_meaning.specs.declared.values.Datum.TheVariants.{Cells, Number}
 use Rattle.mlir_meaning.specs.declared.values.Grid.{Grid}
 use Rattle.mlir_meaning.specs.declared.values.Insertion.{Insertion}
 use Rattle.point_laws.specs.Tiles.{counts}
-use Rattle.region_laws.specs.Nests.{Knows, HasNumber, AreNewVars, with_value, Carried, Turns, args_of, result_names}
+use Rattle.region_laws.specs.Nests.{Knows, HasNumber, AreBounds, VarsAt, AreNewVars, with_value, Carried, Turns, args_of, result_names}
 
 -- a loop fails, or gives its results, of which number k is r
 abbrev pub GivesAt : ℕ → Option Datum → List (ValueId × Ty) → State → Outcome → Type 0
 GivesAt k r rs s o = ((f : Fault) × (o ≡ Fails f)) ⊎ ((ds : List Datum) × (o ≡ defines rs s ds) × (slice_get ds k ≡ r))
 
 -- ONE `scf.forall`
+-- the state in which the body of a tile begins: each argument holds what its output starts from
+pub record BeginsAmong (N : ℕ → Bool) (u : State) (ds : List (ℕ × ℕ)) (h : ForallHead) (q : List ℕ)
+    (s : State) : Type 0 where
+  pub knows : Knows N u s
+  pub vars : VarsAt ds h.vars q s
+  pub start : (k : ℕ) (arg : ValueId) (d : Datum) → slice_get (arguments h.shared) k ≡ Some arg →
+      slice_get (starts u.values h.shared) k ≡ Some d → s.values arg.0 ≡ d
+  pub shared : s.shared ≡ arguments h.shared
+  pub inserts : s.inserts ≡ []
+
 -- the insertions into the output of position k
 abbrev pub into : ℕ → List Insertion → List Insertion
 into k is = filter (λ (i : Insertion). i.output == k) is
@@ -50,11 +61,8 @@ IsWritten k e (Err f) = ⊤
 IsWritten k e (Ok is) = list_any (writes k e) is ≡ true
 
 -- NESTS OF `scf.for`
--- the extent and the size of each loop are there; a size isn't 0
 abbrev pub TurnsBounded : (ℕ → Bool) → State → List (ℕ × ℕ) → List Turns → Type 0
-TurnsBounded N u [] [] = ⊤
-TurnsBounded N u (d ∷ ds) (l ∷ ls) = (0 < d.1) × HasNumber N u l.upper d.0 × HasNumber N u l.step d.1 × TurnsBounded N u ds ls
-TurnsBounded N u _ _ = ⊥
+TurnsBounded N u ds ls = AreBounds N u ds (map (λ (l : Turns). (l.upper, l.step)) ls)
 
 abbrev pub nothing_known : ℕ → Bool
 nothing_known v = false
@@ -65,10 +73,8 @@ AreNewTurns n N [] = ⊤
 AreNewTurns n N (l ∷ ls) = (N l.var.0 ≡ false) × AreNewVars (with_value N l.var) (args_of l.carried)
     × AreNewVars nothing_known (result_names l.carried) × (length l.carried ≡ n) × AreNewTurns n (with_value N l.var) ls
 
--- in the body of a tile each variable is the tile's coordinate times its size
 abbrev pub TurnsAt : List (ℕ × ℕ) → List Turns → List ℕ → State → Type 0
-TurnsAt (d ∷ ds) (l ∷ ls) (k ∷ q) s = (s.values l.var.0 ≡ Number (pos (k * d.1))) × TurnsAt ds ls q s
-TurnsAt _ _ _ s = ⊤
+TurnsAt ds ls q s = VarsAt ds (map (λ (l : Turns). l.var) ls) q s
 
 -- what the innermost body carries
 abbrev pub last_args : List Turns → List ValueId → List ValueId
@@ -91,10 +97,11 @@ RunsTilesAt N u dims ls currents k width es one inner = (q : List ℕ) (s : Stat
     s.values a.0 ≡ Cells width (record { extents = es; cells = cells }) →
     EndsAt (length currents) k width (one q (record { extents = es; cells = cells })) (run inner s)
 
--- A NEST OVER THE TILES OF VALUE k: the bounds are there, the loops' names are new, the innermost body does one tile, and
--- the nest starts from the tensor
+-- A NEST OVER THE TILES OF VALUE k: the bounds are there, the loops' names are new, the innermost body does one tile,
+-- and the nest starts from the tensor
 pub record IsNestAt (N : ℕ → Bool) (u : State) (dims : List (ℕ × ℕ)) (lower : ValueId) (l : Turns) (ls : List Turns)
-    (currents : List ValueId) (k width : ℕ) (g : Grid) (one : List ℕ → Grid → Option Grid) (inner : List Op) : Type 0 where
+    (currents : List ValueId) (k width : ℕ) (g : Grid) (one : List ℕ → Grid → Option Grid)
+    (inner : List Op) : Type 0 where
   pub low : HasNumber N u lower 0
   pub bounds : TurnsBounded N u dims (l ∷ ls)
   pub new : AreNewTurns (length currents) N (l ∷ ls)
@@ -110,7 +117,8 @@ then_grid None rest = Fails Division
 then_grid (Some g) rest = rest g
 
 -- run first, before anything, they trap or go on with the tensor as value r, and keep the values of the set
-pub record MakesTile (M : ℕ → Bool) (t : State) (ops : List Op) (r : ValueId) (width : ℕ) (o : Option Grid) : Type 0 where
+pub record MakesTile (M : ℕ → Bool) (t : State) (ops : List Op) (r : ValueId) (width : ℕ)
+    (o : Option Grid) : Type 0 where
   pub state : Grid → State
   pub runs : (rest : List Op) → run (ops ++ rest) t ≡ then_grid o (λ g. run rest (state g))
   pub knows : (g : Grid) → Knows M t (state g)

@@ -97,8 +97,9 @@ AreInputs N s cut os ns seen [] = ⊤
 AreInputs N s cut os ns seen (i ∷ is) = IsInput N s cut os ns seen i × AreInputs N s cut os ns (grown seen i.slice) is
 
 -- WHAT THE BODY OF A TILE HAS BEHIND ITS SIZES AND OFFSETS, for a region of the box at offsets os with sizes ns, which
--- cuts some dimensions: in t, where the values of M are known, the inputs' slices are those of their tiles, the captured
--- values are those of the tile's payload, and the tile's payload gives what the payload gives at the point moved
+-- cuts some dimensions: in t, where the values of M are known, the inputs' slices are those of their tiles, the
+-- captured values are those of the tile's payload, and the tile's payload gives what the payload gives at the point
+-- moved
 pub record IsBody (M : ℕ → Bool) (t : State) (cut : ℕ → Bool) (os ns : List ℕ) (ms : List MapShape) (ins : List Datum)
     (captured : List ℕ) (payload : PayloadShape) (fs : List (ValueId × Option Slice)) (names : List ValueId)
     (captured' : List ℕ) (payload' : PayloadShape) : Type 0 where
@@ -181,7 +182,8 @@ noting_body b arg c n =
     ∷ record { id = n.insertion; results = []; kind = ParallelInsert n.result arg c.offsets c.sizes } ∷ [])
 
 -- in t, where the values of M are known, the body has what the tile of a region of the generic needs
-pub record DoesTile (g : Instance) (cut : ℕ → Bool) (os ns : List ℕ) (M : ℕ → Bool) (t : State) (b : TileBody) : Type 0 where
+pub record DoesTile (g : Instance) (cut : ℕ → Bool) (os ns : List ℕ) (M : ℕ → Bool) (t : State)
+    (b : TileBody) : Type 0 where
   pub typed : IsTypedInstance g
   pub rank : length b.iterators ≡ length g.box
   pub within : Cut cut g.box os ns
@@ -189,8 +191,8 @@ pub record DoesTile (g : Instance) (cut : ℕ → Bool) (os ns : List ℕ) (M : 
   pub means : MeansTiled g.box cut os ns g.maps g.ds g.ins g.width b.iterators b.inputs b.names b.payload b.kind
 
 -- the carried tensor, or the shared output, is x, and c is its slice
-pub record IsOutputOf (g : Instance) (os ns : List ℕ) (M : ℕ → Bool) (t : State) (b : TileBody) (arg : ValueId) (x : Grid)
-    (c : Slice) : Type 0 where
+pub record IsOutputOf (g : Instance) (os ns : List ℕ) (M : ℕ → Bool) (t : State) (b : TileBody) (arg : ValueId)
+    (x : Grid) (c : Slice) : Type 0 where
   pub known : M arg.0 ≡ true
   pub holds : t.values arg.0 ≡ Cells g.width x
   pub slice : IsOutputSlice M t os ns g.ds b.inputs c

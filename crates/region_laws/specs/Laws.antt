@@ -16,7 +16,7 @@ use Rattle.mlir_ir.specs.declared.tree.OpKind.{Forall, ParallelInsert, OpKind, M
 use Rattle.mlir_ir.specs.declared.tree.Ty.{Ty}
 use Rattle.mlir_ir.specs.declared.tree.ValueId.{ValueId}
 use Rattle.mlir_meaning.specs.Grids.{settled, Fits, IsFull, Each, count_up, InBox, lies_in, same_point}
-use Rattle.mlir_meaning.specs.Loops.{ForallHead, forall_box, forall_state, insertions_of, output_of, starts}
+use Rattle.mlir_meaning.specs.Loops.{ForallHead, forall_box, forall_state, insertions_of, output_of, arguments, starts}
 use Rattle.mlir_meaning.specs.Meaning.{kind_meaning, places_in, run}
 use Rattle.mlir_meaning.specs.Moves.{slice_of}
 use Rattle.mlir_meaning.specs.States.{State, made, width_of}
@@ -28,7 +28,7 @@ use Rattle.point_laws.specs.Boxes.{picks}
 use Rattle.point_laws.specs.Folds.{Combines}
 use Rattle.point_laws.specs.Tiles.{Cut, counts, is_cut, cut_dims, tile_offsets, tile_sizes}
 use Rattle.region_laws.specs.Bodies.{Input, AreInputs, AreSlicesOf, Slice, TileBody, DoesTile, IsOutputOf, Names, slice_ops, tiled_op, tile_ops, insert_op, sliced_body, noting_body, whole_body, slice_names, MeansTiled}
-use Rattle.region_laws.specs.Among.{GivesAt, NotedAt, IsWritten, restarted, IsNestAt, MakesTile}
+use Rattle.region_laws.specs.Among.{GivesAt, BeginsAmong, NotedAt, IsWritten, restarted, IsNestAt, MakesTile}
 use Rattle.region_laws.specs.Spans.{AreSpans, span_offsets, span_sizes}
 use Rattle.region_laws.specs.Instances.{Instance, step_of, result_of, IsTypedInstance, FitsItsBox}
 use Rattle.region_laws.specs.Nests.{Level, TileLoop, AreNewVars, Begins, with_value, ended, noted, Turns, results_of, turns_op}
@@ -62,8 +62,8 @@ OperandsAreRecords = (cut : ℕ → Bool) (box os ns : List ℕ) → Cut cut box
 
 -- what is asked of a body's inputs, one record an input
 abbrev pub InputsAreRecords : Type 0
-InputsAreRecords = (N : ℕ → Bool) (s : State) (cut : ℕ → Bool) (os ns : List ℕ) (seen : ℕ → Bool) (inputs : List Input) →
-    AreInputs N s cut os ns seen inputs →
+InputsAreRecords = (N : ℕ → Bool) (s : State) (cut : ℕ → Bool) (os ns : List ℕ) (seen : ℕ → Bool)
+    (inputs : List Input) → AreInputs N s cut os ns seen inputs →
     AreSlicesOf N s cut os ns seen (map (λ (i : Input). i.axes) inputs) (map (λ (i : Input). i.holds) inputs)
     (map (λ (i : Input). (i.name, i.slice)) inputs)
 
@@ -183,6 +183,11 @@ ForallBegins = (N : ℕ → Bool) (u : State) (dims : List (ℕ × ℕ)) (vs : L
     TileLoop dims u h → N arg.0 ≡ false → AreNewVars (with_value N arg) vs →
     Begins N u dims vs arg (u.values outs.0) q (forall_state u h q)
 
+-- and where there are several shared outputs
+abbrev pub ForallBeginsAmong : Type 0
+ForallBeginsAmong = (N : ℕ → Bool) (u : State) (dims : List (ℕ × ℕ)) (h : ForallHead) (q : List ℕ) → TileLoop dims u h →
+    AreNewVars N (arguments h.shared ++ h.vars) → BeginsAmong N u dims h q (forall_state u h q)
+
 -- slices of the inputs and of the output and the tiled operation make the tile, whatever stands behind them
 abbrev pub TileIsMade : Type 0
 TileIsMade = (g : Instance) (cut : ℕ → Bool) (os ns : List ℕ) (M : ℕ → Bool) (t : State) (b : TileBody) →
@@ -207,8 +212,8 @@ TileIsInserted = (g : Instance) (cut : ℕ → Bool) (os ns : List ℕ) (M : ℕ
 
 -- an insertion into a shared output is noted, by the output's position
 abbrev pub InsertionIsNoted : Type 0
-InsertionIsNoted = (s : State) (id : OpId) (source dest : ValueId) (offsets sizes : List Idx) (rest : List Op) (k : ℕ) (width : ℕ)
-    (t : Grid) → s.values source.0 ≡ Cells width t → output_of s dest ≡ Some k →
+InsertionIsNoted = (s : State) (id : OpId) (source dest : ValueId) (offsets sizes : List Idx)
+    (rest : List Op) (k width : ℕ) (t : Grid) → s.values source.0 ≡ Cells width t → output_of s dest ≡ Some k →
     run (record { id = id; results = []; kind = ParallelInsert source dest offsets sizes } ∷ rest) s
     ≡ run rest (record {
       values = s.values;
@@ -219,15 +224,17 @@ InsertionIsNoted = (s : State) (id : OpId) (source dest : ValueId) (offsets size
 
 -- NAMED OPERATIONS: the tile of each is of its kind
 abbrev pub MatmulTileIsMatmul : Type 0
-MatmulTileIsMatmul = (box : List ℕ) (cut : ℕ → Bool) (os ns : List ℕ) (x y : Datum) (width : ℕ) (a b : ValueId) (fs : List (ValueId × Option Slice)) →
-    slice_names fs ≡ a ∷ b ∷ [] → length box ≡ 3 →
-    MeansTiled box cut os ns (select_map 3 (0 ∷ 2 ∷ []) ∷ select_map 3 (2 ∷ 1 ∷ []) ∷ []) (0 ∷ 1 ∷ []) (x ∷ y ∷ []) width
+MatmulTileIsMatmul = (box : List ℕ) (cut : ℕ → Bool) (os ns : List ℕ) (x y : Datum) (width : ℕ)
+    (a b : ValueId) (fs : List (ValueId × Option Slice)) → slice_names fs ≡ a ∷ b ∷ [] → length box ≡ 3 →
+    MeansTiled box cut os ns (select_map 3 (0 ∷ 2 ∷ []) ∷ select_map 3 (2 ∷ 1 ∷ []) ∷ []) (0 ∷ 1 ∷ []) (x ∷ y ∷ [])
+    width
     (Parallel ∷ Parallel ∷ Reduction ∷ []) fs [] (multiply_add (width_of x) width) (λ outs. Matmul a b outs)
 
 abbrev pub BatchMatmulTileIsBatchMatmul : Type 0
-BatchMatmulTileIsBatchMatmul = (box : List ℕ) (cut : ℕ → Bool) (os ns : List ℕ) (x y : Datum) (width : ℕ) (a b : ValueId)
-    (fs : List (ValueId × Option Slice)) → slice_names fs ≡ a ∷ b ∷ [] → length box ≡ 4 →
-    MeansTiled box cut os ns (select_map 4 (0 ∷ 1 ∷ 3 ∷ []) ∷ select_map 4 (0 ∷ 3 ∷ 2 ∷ []) ∷ []) (0 ∷ 1 ∷ 2 ∷ []) (x ∷ y ∷ [])
+BatchMatmulTileIsBatchMatmul = (box : List ℕ) (cut : ℕ → Bool) (os ns : List ℕ) (x y : Datum) (width : ℕ)
+    (a b : ValueId) (fs : List (ValueId × Option Slice)) → slice_names fs ≡ a ∷ b ∷ [] → length box ≡ 4 →
+    MeansTiled box cut os ns (select_map 4 (0 ∷ 1 ∷ 3 ∷ []) ∷ select_map 4 (0 ∷ 3 ∷ 2 ∷ []) ∷ []) (0 ∷ 1 ∷ 2 ∷ [])
+    (x ∷ y ∷ [])
     width (Parallel ∷ Parallel ∷ Parallel ∷ Reduction ∷ []) fs [] (multiply_add (width_of x) width)
     (λ outs. BatchMatmul a b outs)
 
@@ -239,8 +246,9 @@ MeansCopy box cut os ns ds x width fs kind =
     (replicate (length box) Parallel) fs [] (copying width) kind
 
 abbrev pub FillTileIsFill : Type 0
-FillTileIsFill = (box : List ℕ) (cut : ℕ → Bool) (os ns : List ℕ) (x : Datum) (width : ℕ) (v : ValueId) (fs : List (ValueId × Option Slice)) →
-    slice_names fs ≡ v ∷ [] → MeansCopy box cut os ns [] x width fs (λ outs. Fill v outs)
+FillTileIsFill = (box : List ℕ) (cut : ℕ → Bool) (os ns : List ℕ) (x : Datum) (width : ℕ)
+    (v : ValueId) (fs : List (ValueId × Option Slice)) → slice_names fs ≡ v ∷ [] →
+    MeansCopy box cut os ns [] x width fs (λ outs. Fill v outs)
 
 abbrev pub TransposeTileIsTranspose : Type 0
 TransposeTileIsTranspose = (box : List ℕ) (cut : ℕ → Bool) (os ns order : List ℕ) (x : Datum) (width : ℕ) (v : ValueId)
@@ -301,8 +309,8 @@ TileForGivesGeneric = (g : Instance) (ts : List ℕ) → IsTypedInstance g → I
 abbrev pub TileForallGivesGeneric : Type 0
 TileForallGivesGeneric = (g : Instance) (ts : List ℕ) → IsTypedInstance g → IsFull g.out →
     CutsOutput (is_cut ts) g.box g.ds →
-    (u : State) (h : ForallHead) (k : ℕ) (inner : List Op) (rs : List (ValueId × Ty)) → TileLoop (cut_dims g.box ts) u h →
-    slice_get (starts u.values h.shared) k ≡ Some (Cells g.width g.out) →
+    (u : State) (h : ForallHead) (k : ℕ) (inner : List Op) (rs : List (ValueId × Ty)) →
+    TileLoop (cut_dims g.box ts) u h → slice_get (starts u.values h.shared) k ≡ Some (Cells g.width g.out) →
     ((q : List ℕ) → InBox (counts (cut_dims g.box ts)) q → NotedAt k (picks g.ds (tile_offsets g.box ts q))
     (started_tile (step_of g) g.box ts g.ds g.out q) (insertions_of (run inner (forall_state u h q)))) →
     GivesAt k (result_of g) rs u (kind_meaning (Forall h.vars h.lower h.upper h.step h.shared inner) rs u)

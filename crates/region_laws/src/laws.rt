@@ -2,7 +2,7 @@ ghost use Rattle.region_laws.specs.Laws.{TypedByAxes, OperandsHaveTiles, Operand
 ghost use Rattle.region_laws.specs.Laws.{IndicesMove, OthersStay, HoistedGives, PlacedGives, BodyDoesTile, BodyOfWholeOutput, BodyNotesTile, ForallBegins};
 ghost use Rattle.region_laws.specs.Laws.{MatmulTileIsMatmul, BatchMatmulTileIsBatchMatmul, FillTileIsFill, TransposeTileIsTranspose, BroadcastTileIsBroadcast};
 ghost use Rattle.region_laws.specs.Laws.{TileForMeansGeneric, TileForallMeansGeneric};
-ghost use Rattle.region_laws.specs.Laws.{InputsAreRecords, TileIsMade, TileOfSliceIsMade, TileIsInserted, InsertionIsNoted, SliceOfResultIsTile};
+ghost use Rattle.region_laws.specs.Laws.{InputsAreRecords, ForallBeginsAmong, TileIsMade, TileOfSliceIsMade, TileIsInserted, InsertionIsNoted, SliceOfResultIsTile};
 ghost use Rattle.region_laws.specs.Laws.{TileForGivesGeneric, TileForallGivesGeneric, CoveredOutputMayStartAnywhere, RegionsCover};
 
 // The functions here have no code: their contracts are the laws, over the definitions in `specs/`.
@@ -34,6 +34,7 @@ pub fn bodies_do_one_tile()
     ensures whole { BodyOfWholeOutput }
     ensures at_once { BodyNotesTile }
     ensures begins { ForallBegins }
+    ensures begins_among { ForallBeginsAmong }
     ensures inputs { InputsAreRecords }
     ensures made { TileIsMade }
     ensures of_slice { TileOfSliceIsMade }

@@ -66,8 +66,8 @@ pub record IsInstance (g : Structured) (u : State) : Type 0 where
   pub below : Each (λ c. c < 2 ^ bits_of g.payload.out) (instance_of g u).out.cells
   pub payload : IsPayload g.payload
   pub element : (w : ℕ) × (g.payload.out ≡ Int w)
-  pub supplied : Each (λ (s : PayloadStep). is_supplied (length (instance_of g u).box) (length (instance_of g u).captured) s.op
-      ≡ true) g.payload.steps
+  pub supplied : Each (λ (s : PayloadStep).
+      is_supplied (length (instance_of g u).box) (length (instance_of g u).captured) s.op ≡ true) g.payload.steps
   pub once : repeats (instance_of g u).ds ≡ false
   pub parallel : (d : ℕ) → d < length g.iterators → is_parallel (slice_index_or g.iterators d Parallel)
       ≡ has (instance_of g u).ds d

@@ -44,8 +44,8 @@ ParallelCutsOutput = (g : Structured) (u : State) → IsInstance g u → (cut : 
     ((d : ℕ) → d < length g.iterators → cut d ≡ true → is_parallel (slice_index_or g.iterators d Parallel) ≡ true) →
     CutsOutput cut (instance_of g u).box (instance_of g u).ds
 
--- the payload of a tile of an instance is one, and gives what the instance's gives at the point moved, where its captured
--- values are among c values and each offset is a number or one of them
+-- the payload of a tile of an instance is one, and gives what the instance's gives at the point moved, where its
+-- captured values are among c values and each offset is a number or one of them
 abbrev pub TilesOfPayloads : Type 0
 TilesOfPayloads = (g : Structured) (u : State) → IsInstance g u → (os ns outer : List ℕ) (c : ℕ) (f : ℕ → ℕ)
     (offsets : ℕ → Offset) → Fits (instance_of g u).box os ns →

@@ -1,4 +1,5 @@
 use Rattle.region_laws.proofs.Foralls.{begins}
+use Rattle.region_laws.proofs.Begins.{begins_among}
 use Rattle.region_laws.proofs.Records.{inputs_are_records}
 use Rattle.region_laws.proofs.Stated.{does_tile, does_whole, notes_one, makes_one, makes_of_slice, inserts_one}
 use Rattle.region_laws.proofs.Tilings.{is_noted}
@@ -15,6 +16,9 @@ returns-clause-at_once c = notes_one
 
 pub returns-clause-begins : goal.returns-clause-begins
 returns-clause-begins c = begins
+
+pub returns-clause-begins_among : goal.returns-clause-begins_among
+returns-clause-begins_among c = begins_among
 
 pub returns-clause-inputs : goal.returns-clause-inputs
 returns-clause-inputs c = inputs_are_records
