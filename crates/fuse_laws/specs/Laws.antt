@@ -1,12 +1,10 @@
 -- The laws. Each is the contract of a function in `src/laws.rt`.
-use Rattle.std.specs.Prelude.{◌≡◌, ℕ, ◌<◌, true, List, [], ◌∷◌, map, length, slice_get, slice_index_or, Some, Option}
+use Rattle.std.specs.Prelude.{◌≡◌, ℕ, true, List, [], ◌∷◌, length, slice_get, Some, Option}
 use Rattle.std.specs.Option.{option_and_then}
 use Rattle.payload_ops.specs.Payload.{IsPayload}
-use Rattle.payload_ops.specs.Values.{payload_value, is_supplied}
+use Rattle.payload_ops.specs.Values.{payload_value}
 use Rattle.payload_ops.specs.Shape.{PayloadShape}
-use Rattle.payload_ops.specs.declared.step.Arg.{Arg}
-use Rattle.payload_ops.specs.declared.step.PayloadStep.{PayloadStep}
-use Rattle.mlir_meaning.specs.Grids.{Each, at, InBox}
+use Rattle.mlir_meaning.specs.Grids.{at, InBox}
 use Rattle.fuse_laws.specs.Joined.{spliced, Joint, joined, Fit, Meets}
 use Rattle.affine_maps.specs.Shape.{MapShape}
 use Rattle.mlir_meaning.specs.declared.values.Datum.{Datum}

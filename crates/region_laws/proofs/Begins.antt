@@ -1,14 +1,14 @@
 -- The state in which a body of a `scf.forall` with several shared outputs begins.
-use Rattle.std.proofs.Common.{◌≡◌, ℕ, zero, suc, ◌==◌, ◌||◌, Bool, true, List, [], ◌∷◌, ◌++◌, Some, refl, ap, sym, ◌∙◌}
+use Rattle.std.proofs.Common.{◌≡◌, ℕ, zero, suc, ◌==◌, Bool, true, List, [], ◌∷◌, ◌++◌, Some, refl, ap, sym, ◌∙◌}
 use Rattle.std.specs.Prelude.{slice_get}
 use Rattle.std.proofs.lemmas.Option.{same_Some}
 use Rattle.payload_laws.proofs.Fitted.{slice_get-none}
 use Rattle.mlir_ir.specs.declared.tree.ValueId.{ValueId}
 use Rattle.mlir_meaning.specs.Loops.{numbers_at, arguments, starts, forall_state}
-use Rattle.mlir_meaning.specs.States.{State, set_all, indices_in}
+use Rattle.mlir_meaning.specs.States.{set_all, indices_in}
 use Rattle.mlir_meaning.specs.declared.values.Datum.{Datum}
 use Rattle.point_laws.proofs.Lists.{or_right}
-use Rattle.region_laws.specs.Nests.{with_value, AreNewVars, numbers_of}
+use Rattle.region_laws.specs.Nests.{with_value, AreNewVars}
 use Rattle.region_laws.specs.Laws.{ForallBeginsAmong}
 use Rattle.region_laws.proofs.Foralls.{forall_numbers_are, set_all_keeps, set_all_at, with_self, vars_are}
 

@@ -1,17 +1,14 @@
 -- The window of `ExampleWindow` by a `scf.forall` with two shared outputs: its tiles go into the second one, and into the
 -- first one too.
-use Rattle.std.proofs.Common.{◌≡◌, ℕ, ◌+◌, ◌-◌, ◌*◌, ◌<◌, min, List, [], ◌∷◌, ◌++◌, Option, Some, None, refl, sym, subst, ◌∙◌, arith, pos}
+use Rattle.std.proofs.Common.{◌≡◌, ℕ, ◌+◌, ◌-◌, ◌*◌, min, List, [], ◌∷◌, ◌++◌, Option, Some, None, refl, sym, subst, ◌∙◌, arith, pos}
 use Rattle.mlir_ir.specs.declared.tree.Idx.TheVariants.{Literal}
 use Rattle.mlir_ir.specs.declared.tree.Op.{Op}
-use Rattle.mlir_ir.specs.declared.tree.OpId.{OpId}
 use Rattle.mlir_ir.specs.declared.tree.OpKind.{Forall, ParallelInsert}
-use Rattle.mlir_ir.specs.declared.tree.Ty.{Ty}
-use Rattle.mlir_ir.specs.declared.tree.ValueId.{ValueId}
 use Rattle.mlir_meaning.specs.Grids.{InBox}
 use Rattle.mlir_meaning.specs.Loops.{ForallHead, forall_state, insertions_of, output_of}
 use Rattle.mlir_meaning.specs.Meaning.{kind_meaning, run, places_in}
 use Rattle.mlir_meaning.specs.Points.{to_nat}
-use Rattle.mlir_meaning.specs.States.{State, Outcome, number_of}
+use Rattle.mlir_meaning.specs.States.{State, number_of}
 use Rattle.mlir_meaning.specs.declared.values.Datum.TheVariants.{Cells}
 use Rattle.mlir_meaning.specs.declared.values.Grid.{Grid}
 use Rattle.point_laws.specs.Boxes.{picks}
@@ -28,7 +25,7 @@ use Rattle.region_laws.proofs.Shared.{tile_forall_gives}
 use Rattle.region_laws.proofs.Stated.{makes_one}
 use Rattle.region_laws.proofs.Stays.{still_is}
 use Rattle.region_laws.proofs.Tilings.{is_noted}
-use Rattle.region_laws.proofs.ExampleWindow.{a, b, out, v, u, N, box, ts, ds, multiply_add, t4, slice_out, window, tile_body, made_names, typed, cuts, M}
+use Rattle.region_laws.proofs.ExampleWindow.{out, v, u, N, box, ts, ds, multiply_add, t4, slice_out, window, tile_body, made_names, typed, cuts, M}
 
 abbrev head : ForallHead
 head = record {

@@ -12,9 +12,8 @@ use Rattle.mlir_meaning.specs.Grids.{points, InBox}
 use Rattle.mlir_meaning.specs.Loops.{ForallHead, trip_counts, numbers_at, forall_box, forall_state, insertions_of, gathered, result_append, inserted, inserted_data, forall_meaning}
 use Rattle.mlir_meaning.specs.Moves.{insert_into}
 use Rattle.mlir_meaning.specs.Points.{to_nat}
-use Rattle.mlir_meaning.specs.States.{State, Outcome, Fails, made, defines, then_made, set, set_all, indices_in}
+use Rattle.mlir_meaning.specs.States.{State, Outcome, made, defines, then_made, set, set_all, indices_in}
 use Rattle.mlir_meaning.specs.declared.answer.Fault.{Fault}
-use Rattle.mlir_meaning.specs.declared.answer.Fault.TheVariants.{Division}
 use Rattle.mlir_meaning.specs.declared.values.Grid.{Grid}
 use Rattle.mlir_meaning.specs.declared.values.Insertion.{Insertion}
 use Rattle.mlir_meaning.specs.declared.values.Datum.{Datum}

@@ -1,5 +1,5 @@
 -- A step in front for each captured value, and what a payload yields.
-use Rattle.std.proofs.Common.{◌≡◌, ℕ, ◌+◌, ◌<◌, ◌%◌, ◌^◌, eqb-true, true, List, [], ◌∷◌, ◌++◌, map, get_or, Option, Some, None, refl, ap, sym, ◌∙◌, arith, append_assoc, zero, suc}
+use Rattle.std.proofs.Common.{◌≡◌, ℕ, ◌<◌, ◌%◌, ◌^◌, eqb-true, true, List, [], ◌∷◌, ◌++◌, map, get_or, Option, Some, None, refl, ap, sym, ◌∙◌, arith, append_assoc, zero, suc}
 use Rattle.std.specs.Prelude.{option_map, slice_get}
 use Rattle.std.proofs.lemmas.Bool.{and_parts}
 use Rattle.std.proofs.lemmas.List.{append-nil}
@@ -47,4 +47,3 @@ yields p h = by (type_in p p.steps p.yielded) refl (and_parts (steps_fit p.ins p
   by : (o : Option ElemTy) → type_in p p.steps p.yielded ≡ o → has_type o p.out ≡ true → o ≡ Some p.out
   by None q h = absurd cc
   by (Some t) q h = ap Some (same_type t p.out h)
-

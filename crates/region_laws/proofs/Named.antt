@@ -2,7 +2,7 @@
 use Rattle.std.proofs.Common.{◌≡◌, ℕ, Bool, true, false, List, [], ◌∷◌, Option, if◌then◌else◌, refl, ap, sym, ◌∙◌, zero, suc, ◌+◌, ◌++◌, map, length, get_or, arith}
 use Rattle.affine_maps.specs.Shape.{MapShape}
 use Rattle.mlir_ir.specs.declared.tree.Iter.TheVariants.{Parallel, Reduction}
-use Rattle.mlir_ir.specs.declared.tree.OpKind.{Generic, Matmul}
+use Rattle.mlir_ir.specs.declared.tree.OpKind.{Generic}
 use Rattle.mlir_ir.specs.declared.tree.ValueId.{ValueId}
 use Rattle.mlir_meaning.specs.Meaning.{kind_meaning, values_in}
 use Rattle.mlir_meaning.specs.Moves.{slice_of}
@@ -13,7 +13,7 @@ use Rattle.mlir_meaning.specs.declared.values.Datum.{Datum}
 use Rattle.mlir_meaning.specs.declared.values.Datum.TheVariants.{Number, Bits, Cells}
 use Rattle.mlir_meaning.proofs.Named.{matmul_is, batch_matmul_is, fill_is, transpose_is, broadcast_is}
 use Rattle.region_laws.specs.Operands.{is_sliced, offsets_of, sizes_of, operand_tile, inner_map}
-use Rattle.region_laws.specs.Bodies.{Slice, slice_names, MeansTiled}
+use Rattle.region_laws.specs.Bodies.{Slice, slice_names}
 use Rattle.region_laws.proofs.Outputs.{inner_selected}
 use Rattle.std.specs.Prelude.{replicate}
 use Rattle.std.proofs.lemmas.List.{map-append, length-map}

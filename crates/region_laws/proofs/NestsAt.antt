@@ -1,5 +1,5 @@
 -- A nest of `scf.for` that carries several values runs its innermost body for each tile in turn, into one of them.
-use Rattle.std.proofs.Common.{◌≡◌, ℕ, zero, suc, ◌+◌, ◌-◌, ◌*◌, ◌/◌, ◌<◌, ◌==◌, ◌||◌, ℤ, pos, ◌+ℤ◌, ◌-ℤ◌, Bool, true, false, List, [], ◌∷◌, map, length, fold, Option, Some, None, ◌⊎◌, inl, inr, ⊎_elim, refl, ap, sym, subst, ◌∙◌, arith, add-mul, zero-mul, add-zero}
+use Rattle.std.proofs.Common.{◌≡◌, ℕ, zero, suc, ◌+◌, ◌-◌, ◌*◌, ◌/◌, ◌<◌, ◌==◌, ◌||◌, ℤ, pos, ◌+ℤ◌, ◌-ℤ◌, Bool, true, false, List, [], ◌∷◌, map, length, fold, Option, Some, None, ◌⊎◌, inl, inr, refl, ap, sym, subst, ◌∙◌, arith, add-mul, zero-mul, add-zero}
 use Rattle.std.specs.Prelude.{option_map, option_and_then, slice_get, if◌then◌else◌}
 use Rattle.std.proofs.lemmas.Bool.{eq-eqb}
 use Rattle.std.proofs.lemmas.List.{length-map}
@@ -7,29 +7,27 @@ use Rattle.std.proofs.lemmas.Option.{slice_get_within, slice_get-map}
 use Rattle.mlir_ir.specs.declared.tree.Op.{Op}
 use Rattle.mlir_ir.specs.declared.tree.Ty.{Ty}
 use Rattle.mlir_ir.specs.declared.tree.ValueId.{ValueId}
-use Rattle.mlir_meaning.specs.Grids.{points, at, lies_in, all_some, settled, count_up, InBox, IsFull, Each}
+use Rattle.mlir_meaning.specs.Grids.{points, at, lies_in, all_some, count_up, InBox}
 use Rattle.mlir_meaning.specs.Loops.{ForHead, turns, trips, arguments, starts, for_state, for_meaning}
 use Rattle.mlir_meaning.specs.Meaning.{kind_meaning, run, values_in}
 use Rattle.mlir_meaning.specs.Points.{to_nat}
 use Rattle.mlir_meaning.specs.States.{State, Outcome, Goes, Ends, Fails, defines, then_goes, then_ends, set, set_all, names_of, number_of}
-use Rattle.mlir_meaning.specs.Structured.{generic_element}
 use Rattle.mlir_meaning.specs.declared.answer.Fault.{Fault}
 use Rattle.mlir_meaning.specs.declared.values.Datum.{Datum}
 use Rattle.mlir_meaning.specs.declared.values.Datum.TheVariants.{Number, Cells}
-use Rattle.mlir_meaning.specs.declared.values.Grid.{Grid}
 use Rattle.mlir_meaning.proofs.Bodies.{meaning-for}
 use Rattle.mlir_meaning.proofs.Grids.{each_point, each_more}
 use Rattle.mlir_meaning.proofs.States.{set_same, set_other, apart}
 use Rattle.point_laws.specs.Boxes.{picks}
 use Rattle.point_laws.specs.Tiles.{tile_box, tile_count, counts, cut_dims, tile_offsets, tile_sizes}
 use Rattle.point_laws.proofs.Lists.{or_right}
-use Rattle.region_laws.specs.Among.{GivesAt, nothing_known, TurnsBounded, AreNewTurns, TurnsAt, last_args, EndsAt, IsNestAt}
-use Rattle.region_laws.specs.Instances.{Instance, step_of, result_of}
+use Rattle.region_laws.specs.Among.{GivesAt, nothing_known, TurnsBounded, AreNewTurns, TurnsAt, last_args, EndsAt}
+use Rattle.region_laws.specs.Instances.{step_of}
 use Rattle.region_laws.specs.Nests.{Knows, HasNumber, with_value, AreNewVars, Turns, Carried, args_of, results_of, result_names, started, turns_loop, turns_body, turns_op, yield_all}
-use Rattle.region_laws.specs.Regions.{cell, in_turn, AddsRegions}
+use Rattle.region_laws.specs.Regions.{cell}
 use Rattle.region_laws.specs.Laws.{TileForGivesGeneric}
 use Rattle.region_laws.proofs.Foralls.{set_all_keeps, set_all_at}
-use Rattle.region_laws.proofs.Nests.{each_turn, each_tile, in_rows}
+use Rattle.region_laws.proofs.Nests.{each_tile, in_rows}
 use Rattle.region_laws.proofs.Steps.{grid}
 use Rattle.region_laws.proofs.TileLoops.{ByCells, in_cells, map_cells, tiles_in_turn}
 

@@ -1,12 +1,7 @@
 -- Operands as records, from an operation's maps and operands.
-use Rattle.std.proofs.Common.{◌≡◌, ℕ, Bool, List, [], ◌∷◌, map, refl}
-use Rattle.affine_maps.specs.Shape.{MapShape}
-use Rattle.mlir_meaning.specs.Grids.{Each}
-use Rattle.mlir_meaning.specs.States.{State}
-use Rattle.mlir_meaning.specs.declared.values.Datum.{Datum}
-use Rattle.point_laws.specs.Tiles.{Cut}
-use Rattle.region_laws.specs.Bodies.{Input, AreInputs, grown}
-use Rattle.region_laws.specs.Operands.{Operand, maps_in, olds, news, tiled_operands, operand_tile, operand_tiles, inner_map, AreRead, IsTile}
+use Rattle.std.proofs.Common.{[], ◌∷◌, refl}
+use Rattle.region_laws.specs.Bodies.{grown}
+use Rattle.region_laws.specs.Operands.{operand_tile}
 use Rattle.region_laws.specs.Laws.{OperandsAreRecords, InputsAreRecords}
 use Rattle.region_laws.proofs.Operands.{operand_is}
 

@@ -1,18 +1,15 @@
 -- A `scf.forall` with several shared outputs: what one of them holds, and where it may start.
-use Rattle.std.proofs.Common.{◌≡◌, ℕ, zero, suc, ◌+◌, ◌==◌, ◌&&◌, ◌||◌, Bool, true, false, cond, List, [], ◌∷◌, ◌++◌, map, fold, filter, Option, Some, None, ◌⊎◌, inl, inr, ⊎_elim, refl, ap, sym, subst, ◌∙◌, arith}
+use Rattle.std.proofs.Common.{◌≡◌, ℕ, zero, suc, ◌+◌, ◌==◌, ◌&&◌, ◌||◌, Bool, true, false, cond, List, [], ◌∷◌, ◌++◌, map, fold, Option, Some, None, ◌⊎◌, inl, inr, ⊎_elim, refl, ap, sym, subst, ◌∙◌, arith}
 use Rattle.std.specs.Prelude.{Result, Ok, Err, option_map, option_and_then, slice_get, if◌then◌else◌}
 use Rattle.std.specs.List.{list_any}
 use Rattle.std.proofs.lemmas.List.Folds.{list_any-append}
 use Rattle.std.proofs.lemmas.Option.{same_Some}
 use Rattle.payload_laws.proofs.Fitted.{slice_get-none}
-use Rattle.affine_maps.specs.Shape.{MapShape}
-use Rattle.payload_ops.specs.Shape.{PayloadShape}
-use Rattle.mlir_ir.specs.declared.tree.Op.{Op}
 use Rattle.mlir_ir.specs.declared.tree.Ty.{Ty}
 use Rattle.mlir_ir.specs.declared.tree.ValueId.{ValueId}
 use Rattle.mlir_meaning.specs.Grids.{points, at, minus, tabulate, lies_in, InBox, IsFull, Each}
 use Rattle.mlir_meaning.specs.Loops.{ForallHead, forall_box, forall_state, insertions_of, gathered, result_append, inserted, inserted_datum, inserted_data, forall_meaning, starts}
-use Rattle.mlir_meaning.specs.Meaning.{kind_meaning, run}
+use Rattle.mlir_meaning.specs.Meaning.{run}
 use Rattle.mlir_meaning.specs.Moves.{insert_into}
 use Rattle.mlir_meaning.specs.States.{State, Outcome, defines, then_made}
 use Rattle.mlir_meaning.specs.declared.answer.Fault.{Fault}

@@ -1,5 +1,5 @@
 -- The payload on a tile is one, and gives at a point what the payload gives at the point moved.
-use Rattle.std.proofs.Common.{◌≡◌, ℕ, zero, suc, ◌+◌, ◌-◌, ◌<◌, ◌%◌, ◌^◌, ◌&&◌, true, pos, ◌+ℤ◌, ◌*ℤ◌, ℤ, List, [], ◌∷◌, ◌++◌, map, length, get_or, Option, Some, refl, ap, sym, subst, ◌∙◌, arith, length-append, append_assoc}
+use Rattle.std.proofs.Common.{◌≡◌, ℕ, zero, suc, ◌+◌, ◌-◌, ◌<◌, ◌%◌, ◌^◌, ◌&&◌, true, pos, ◌+ℤ◌, ℤ, List, [], ◌∷◌, ◌++◌, map, length, get_or, Option, Some, refl, ap, sym, ◌∙◌, arith, length-append, append_assoc}
 use Rattle.std.specs.Prelude.{option_map}
 use Rattle.std.specs.List.{list_all}
 use Rattle.std.proofs.Math.Nat.{mod-add-mod, add-mod-mod}
@@ -10,17 +10,16 @@ use Rattle.payload_ops.specs.Payload.{IsPayload, has_type, term_fits, steps_fit}
 use Rattle.mlir_base.specs.Numbers.{is_in_range}
 use Rattle.payload_ops.specs.Shape.{PayloadShape}
 use Rattle.payload_ops.specs.Values.{Given, arg_value, terms_sum, op_value, steps_values, payload_value, is_supplied}
-use Rattle.mlir_base.specs.declared.types.ElemTy.{ElemTy}
 use Rattle.mlir_base.specs.declared.types.ElemTy.TheVariants.{Int, Index as IndexType}
 use Rattle.payload_ops.specs.declared.step.Arg.{Arg}
 use Rattle.payload_ops.specs.declared.step.Arg.TheVariants.{Step}
 use Rattle.payload_ops.specs.declared.step.PayloadStep.{PayloadStep}
 use Rattle.payload_ops.proofs.Words.{reduce_is}
-use Rattle.mlir_meaning.specs.Grids.{plus, count_up, Fits, Each}
+use Rattle.mlir_meaning.specs.Grids.{plus, Fits, Each}
 use Rattle.point_laws.proofs.Tables.{get_or-plus, tabled_at, tabled_length}
 use Rattle.region_laws.specs.Operands.{IsMoved}
-use Rattle.region_laws.specs.Moved.{index_step, captured_step, linear_step}
-use Rattle.region_laws.specs.Captured.{fronts, hoisted, hoisted_to, hoisted_rest, in_front, IsBehind}
+use Rattle.region_laws.specs.Moved.{index_step, linear_step}
+use Rattle.region_laws.specs.Captured.{fronts, hoisted, hoisted_to, hoisted_rest}
 use Rattle.region_laws.specs.Shifts.{Offset, NoOffset, FixedOffset, HeldOffset, plus_offset, moved_index, tile_payload, tile_captured, IsOffset}
 use Rattle.region_laws.specs.Laws.{IndicesMove}
 use Rattle.region_laws.proofs.Moves.{type_in, type_kept, type_new}

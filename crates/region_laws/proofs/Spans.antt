@@ -1,5 +1,5 @@
 -- Regions that stand by a loop's variables are disjoint and cover.
-use Rattle.std.proofs.Common.{◌≡◌, ℕ, ◌+◌, ◌-◌, ◌*◌, ◌/◌, ◌<◌, ◌≤◌, ◌&&◌, ◌==◌, List, [], ◌∷◌, map, length, get_or, Option, Some, None, ⊎_elim, refl, ap, sym, subst, ◌∙◌, arith, true}
+use Rattle.std.proofs.Common.{◌≡◌, ℕ, ◌/◌, ◌<◌, ◌&&◌, List, [], ◌∷◌, length, get_or, Option, Some, None, ⊎_elim, refl, ap, sym, subst, ◌∙◌, arith}
 use Rattle.std.proofs.Math.Nat.{div-lt_iff_lt-mul}
 use Rattle.std.proofs.lemmas.Bool.{cases_lt}
 use Rattle.std.proofs.lemmas.List.{get_or-map, get_or_past, length-map}
@@ -12,7 +12,7 @@ use Rattle.point_laws.proofs.Lists.{both_ways}
 use Rattle.point_laws.proofs.Ragged.{tiles_end, tile_begins, tile_tested, whole_tested}
 use Rattle.point_laws.proofs.Tables.{lists_same, tabled_at, tabled_length, box_length, get_or-in}
 use Rattle.point_laws.proofs.Turning.{Order, order_of, old_inside, new_old, old_new}
-use Rattle.region_laws.specs.Spans.{span_offsets, span_sizes, span_places, SpansRun, AreSpans}
+use Rattle.region_laws.specs.Spans.{span_offsets, span_sizes, span_places, SpansRun}
 use Rattle.region_laws.specs.Laws.{RegionsCover}
 
 -- the turn of each variable, in order of the axes

@@ -9,18 +9,18 @@ use Rattle.mlir_ir.specs.declared.tree.Op.{Op}
 use Rattle.mlir_ir.specs.declared.tree.Ty.{Ty}
 use Rattle.mlir_ir.specs.declared.tree.ValueId.{ValueId}
 use Rattle.mlir_ir.specs.declared.tree.Idx.{Idx}
-use Rattle.mlir_meaning.specs.Grids.{points, at, plus, lies_in, all_some, settled, InBox, IsFull, Each}
+use Rattle.mlir_meaning.specs.Grids.{points, at, plus, lies_in, all_some, InBox, IsFull, Each}
 use Rattle.mlir_meaning.specs.Loops.{ForallHead}
 use Rattle.mlir_meaning.specs.Meaning.{kind_meaning, run}
 use Rattle.mlir_meaning.specs.Moves.{insert_into}
 use Rattle.mlir_meaning.specs.States.{State, made}
-use Rattle.mlir_meaning.specs.Structured.{generic_step, generic_element, generic_result, elements}
+use Rattle.mlir_meaning.specs.Structured.{generic_step, generic_result, elements}
 use Rattle.mlir_meaning.specs.declared.values.Grid.{Grid}
 use Rattle.mlir_meaning.specs.declared.values.Datum.{Datum}
 use Rattle.mlir_meaning.specs.declared.values.Datum.TheVariants.{Cells}
 use Rattle.mlir_meaning.proofs.Bodies.{meaning-forall, forall_kind}
 use Rattle.mlir_meaning.proofs.Grids.{each_point, each_more}
-use Rattle.point_laws.specs.Folds.{Swaps, Combines}
+use Rattle.point_laws.specs.Folds.{Combines}
 use Rattle.point_laws.specs.Tiles.{tile_box, cut_dims, tile_offsets, tile_sizes, is_cut}
 use Rattle.region_laws.specs.Regions.{cell, in_turn, Windows, AddsRegions}
 use Rattle.region_laws.specs.Operands.{names_cut, is_sliced, CutsOutput, maps_of, IsTyped}

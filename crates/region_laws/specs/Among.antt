@@ -1,12 +1,9 @@
 -- Loops that carry or share several values, of which one is made by tiles: the others are kept, or written by others.
-use Rattle.std.specs.Prelude.{◌≡◌, ℕ, zero, suc, ◌*◌, ◌<◌, ◌==◌, ◌&&◌, pos, Bool, true, false, List, [], ◌∷◌, ◌++◌, map, filter, length, slice_get, Option, Some, None, Result, Ok, Err, option_map, ◌⊎◌, ⊤}
+use Rattle.std.specs.Prelude.{◌≡◌, ℕ, zero, suc, ◌==◌, ◌&&◌, Bool, true, false, List, [], ◌∷◌, ◌++◌, map, filter, length, slice_get, Option, Some, None, Result, Ok, Err, ◌⊎◌, ⊤}
 use Rattle.std.specs.List.{list_any}
 use Rattle.mlir_ir.specs.declared.tree.Op.{Op}
-use Rattle.mlir_ir.specs.declared.tree.OpId.{OpId}
-use Rattle.mlir_ir.specs.declared.tree.OpKind.{Yield}
 use Rattle.mlir_ir.specs.declared.tree.Ty.{Ty}
 use Rattle.mlir_ir.specs.declared.tree.ValueId.{ValueId}
-use Rattle.mlir_meaning.specs.Contexts.{ForLoop, for_op}
 use Rattle.mlir_meaning.specs.Grids.{lies_in, InBox}
 use Rattle.mlir_meaning.specs.Loops.{ForallHead, arguments, starts}
 use Rattle.mlir_meaning.specs.Meaning.{run}
@@ -14,11 +11,11 @@ use Rattle.mlir_meaning.specs.States.{State, Outcome, Goes, Ends, Fails, defines
 use Rattle.mlir_meaning.specs.declared.answer.Fault.{Fault}
 use Rattle.mlir_meaning.specs.declared.answer.Fault.TheVariants.{Division}
 use Rattle.mlir_meaning.specs.declared.values.Datum.{Datum}
-use Rattle.mlir_meaning.specs.declared.values.Datum.TheVariants.{Cells, Number}
+use Rattle.mlir_meaning.specs.declared.values.Datum.TheVariants.{Cells}
 use Rattle.mlir_meaning.specs.declared.values.Grid.{Grid}
 use Rattle.mlir_meaning.specs.declared.values.Insertion.{Insertion}
 use Rattle.point_laws.specs.Tiles.{counts}
-use Rattle.region_laws.specs.Nests.{Knows, HasNumber, AreBounds, VarsAt, AreNewVars, with_value, Carried, Turns, args_of, result_names}
+use Rattle.region_laws.specs.Nests.{Knows, HasNumber, AreBounds, VarsAt, AreNewVars, with_value, Turns, args_of, result_names}
 
 -- a loop fails, or gives its results, of which number k is r
 abbrev pub GivesAt : ℕ → Option Datum → List (ValueId × Ty) → State → Outcome → Type 0

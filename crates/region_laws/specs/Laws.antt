@@ -26,7 +26,7 @@ use Rattle.mlir_meaning.specs.declared.values.Datum.TheVariants.{Cells}
 use Rattle.mlir_meaning.specs.declared.values.Grid.{Grid}
 use Rattle.point_laws.specs.Boxes.{picks}
 use Rattle.point_laws.specs.Folds.{Combines}
-use Rattle.point_laws.specs.Tiles.{Cut, counts, is_cut, cut_dims, tile_offsets, tile_sizes}
+use Rattle.point_laws.specs.Tiles.{Cut, counts, is_cut, cut_dims, tile_offsets}
 use Rattle.region_laws.specs.Bodies.{Input, AreInputs, AreSlicesOf, Slice, TileBody, DoesTile, IsOutputOf, Names, slice_ops, tiled_op, tile_ops, insert_op, sliced_body, noting_body, whole_body, slice_names, MeansTiled}
 use Rattle.region_laws.specs.Among.{GivesAt, BeginsAmong, NotedAt, IsWritten, restarted, IsNestAt, MakesTile}
 use Rattle.region_laws.specs.Spans.{AreSpans, span_offsets, span_sizes}

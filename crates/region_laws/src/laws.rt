@@ -1,9 +1,12 @@
-ghost use Rattle.region_laws.specs.Laws.{TypedByAxes, OperandsHaveTiles, OperandsAreRecords, TilesHaveBox, TiledGenericIsTile, TilesAddRegions, SliceOfWholeIsTile};
-ghost use Rattle.region_laws.specs.Laws.{IndicesMove, OthersStay, HoistedGives, PlacedGives, BodyDoesTile, BodyOfWholeOutput, BodyNotesTile, ForallBegins};
-ghost use Rattle.region_laws.specs.Laws.{MatmulTileIsMatmul, BatchMatmulTileIsBatchMatmul, FillTileIsFill, TransposeTileIsTranspose, BroadcastTileIsBroadcast};
-ghost use Rattle.region_laws.specs.Laws.{TileForMeansGeneric, TileForallMeansGeneric};
-ghost use Rattle.region_laws.specs.Laws.{InputsAreRecords, ForallBeginsAmong, TileIsMade, TileOfSliceIsMade, TileIsInserted, InsertionIsNoted, SliceOfResultIsTile};
-ghost use Rattle.region_laws.specs.Laws.{TileForGivesGeneric, TileForallGivesGeneric, CoveredOutputMayStartAnywhere, RegionsCover};
+ghost use Rattle.region_laws.specs.Laws.{TypedByAxes, OperandsHaveTiles, OperandsAreRecords, TilesHaveBox};
+ghost use Rattle.region_laws.specs.Laws.{TiledGenericIsTile, TilesAddRegions, SliceOfWholeIsTile, IndicesMove};
+ghost use Rattle.region_laws.specs.Laws.{OthersStay, HoistedGives, PlacedGives, BodyDoesTile, BodyOfWholeOutput};
+ghost use Rattle.region_laws.specs.Laws.{BodyNotesTile, ForallBegins, MatmulTileIsMatmul};
+ghost use Rattle.region_laws.specs.Laws.{BatchMatmulTileIsBatchMatmul, FillTileIsFill, TransposeTileIsTranspose};
+ghost use Rattle.region_laws.specs.Laws.{BroadcastTileIsBroadcast, TileForMeansGeneric, TileForallMeansGeneric};
+ghost use Rattle.region_laws.specs.Laws.{InputsAreRecords, ForallBeginsAmong, TileIsMade, TileOfSliceIsMade};
+ghost use Rattle.region_laws.specs.Laws.{TileIsInserted, InsertionIsNoted, SliceOfResultIsTile, TileForGivesGeneric};
+ghost use Rattle.region_laws.specs.Laws.{TileForallGivesGeneric, CoveredOutputMayStartAnywhere, RegionsCover};
 
 // The functions here have no code: their contracts are the laws, over the definitions in `specs/`.
 

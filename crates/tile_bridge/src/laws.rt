@@ -1,4 +1,5 @@
-ghost use Rattle.tile_bridge.specs.Laws.{OperandsFitBox, RunsReachInstances, InstancesAreTyped, ParallelCutsOutput, TilesOfPayloads};
+ghost use Rattle.tile_bridge.specs.Laws.{OperandsFitBox, RunsReachInstances, InstancesAreTyped, ParallelCutsOutput};
+ghost use Rattle.tile_bridge.specs.Laws.{TilesOfPayloads};
 
 // The functions here have no code: their contracts are the laws, over the definitions in `specs/`.
 
