@@ -1,5 +1,5 @@
 -- Regions that stand by a loop's variables are disjoint and cover.
-use Rattle.std.proofs.Common.{◌≡◌, ℕ, ◌/◌, ◌<◌, ◌&&◌, List, [], ◌∷◌, length, get_or, Option, Some, None, ⊎_elim, refl, ap, sym, subst, ◌∙◌, arith}
+use Rattle.std.proofs.Common.{◌≡◌, ℕ, ◌/◌, ◌<◌, ◌&&◌, ◌||◌, ◌==◌, Bool, true, false, cond, List, [], ◌∷◌, length, get_or, Option, Some, None, ⊎_elim, refl, ap, sym, subst, ◌∙◌, arith}
 use Rattle.std.proofs.Math.Nat.{div-lt_iff_lt-mul}
 use Rattle.std.proofs.lemmas.Bool.{cases_lt}
 use Rattle.std.proofs.lemmas.List.{get_or-map, get_or_past, length-map}
@@ -13,7 +13,15 @@ use Rattle.point_laws.proofs.Ragged.{tiles_end, tile_begins, tile_tested, whole_
 use Rattle.point_laws.proofs.Tables.{lists_same, tabled_at, tabled_length, box_length, get_or-in}
 use Rattle.point_laws.proofs.Turning.{Order, order_of, old_inside, new_old, old_new}
 use Rattle.region_laws.specs.Spans.{span_offsets, span_sizes, span_places, SpansRun}
-use Rattle.region_laws.specs.Laws.{RegionsCover}
+use Rattle.region_laws.specs.Laws.{RegionsCover, SpannedOutputMayStartAnywhere}
+use Rattle.std.specs.Prelude.{Result, Ok, Err}
+use Rattle.std.specs.List.{list_any}
+use Rattle.mlir_meaning.specs.Loops.{forall_box, forall_state, insertions_of}
+use Rattle.mlir_meaning.specs.Meaning.{run}
+use Rattle.mlir_meaning.specs.declared.answer.Fault.{Fault}
+use Rattle.mlir_meaning.specs.declared.values.Insertion.{Insertion}
+use Rattle.region_laws.specs.Among.{into, InsertsAt, IsWritten, writes}
+use Rattle.region_laws.proofs.Shared.{may_start_anywhere}
 
 -- the turn of each variable, in order of the axes
 abbrev turns_of : List (Option (ℕ × ℕ)) → List ℕ → List ℕ
@@ -76,3 +84,33 @@ regions_cover box es axes s e b =
           (λ h. ap (λ p. same_point p turns) (ap (old_point vs) (same_point-true xs (picks vs turns) h ∙ picks_new vs turns) ∙ old_new vs n o turns size) ∙ same_point-refl turns)
           (λ h. ap (same_point xs) (picks_new vs turns ∙ ap (new_point vs) (sym (same_point-true q turns h)) ∙ new_old vs n o xs long) ∙ same_point-refl xs),
     )
+
+-- WHERE AN OUTPUT STARTS
+abbrev first_of : Insertion → List Insertion → Insertion
+first_of d [] = d
+first_of d (x ∷ xs) = x
+
+into_written : (k : ℕ) (e : List ℕ) (is : List Insertion) (i : Insertion) → into k is ≡ i ∷ [] → lies_in i.offsets i.tile.extents e ≡ true → list_any (writes k e) is ≡ true
+into_written k e [] i h l = absurd cc
+into_written k e (x ∷ is) i h l = by (x.output == k) (into_written k e is i) h where
+  by : (b : Bool) → (into k is ≡ i ∷ [] → lies_in i.offsets i.tile.extents e ≡ true → list_any (writes k e) is ≡ true) → cond b (x ∷ into k is) (into k is) ≡ i ∷ [] →
+      ((b && lies_in x.offsets x.tile.extents e) || list_any (writes k e) is) ≡ true
+  by true again q =
+      let same : x ≡ i = ap (first_of i) q in
+      (λ j. lies_in (same j).offsets (same j).tile.extents e || list_any (writes k e) is) ∙ (λ j. l j || list_any (writes k e) is)
+  by false again q = again q l
+
+written_at : (k : ℕ) (e offsets sizes : List ℕ) (r : Result (List Insertion) Fault) → InsertsAt k offsets sizes r → lies_in offsets sizes e ≡ true → IsWritten k e r
+written_at k e offsets sizes (Err f) h l = tt
+written_at k e offsets sizes (Ok is) h l = into_written k e is h.0 h.1 ((λ j. lies_in (h.2 j) (h.3 j) e) ∙ l)
+
+pub spanned_may_start : SpannedOutputMayStartAnywhere
+spanned_may_start u h k width v old new inner inner' rs axes spans start starts_new same full full' bodies inserts =
+    may_start_anywhere u h k width v old new inner inner' rs start starts_new same full full' bodies
+    (λ e b.
+    let c = regions_cover (forall_box u h) old.extents axes spans e b in (
+      c.0,
+      c.1,
+      written_at k e (span_offsets c.0 axes) (span_sizes c.0 old.extents axes) (insertions_of (run inner (forall_state u h c.0))) (inserts c.0 c.1)
+          (c.2 c.0 c.1 ∙ same_point-refl c.0),
+    ))

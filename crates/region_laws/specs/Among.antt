@@ -42,6 +42,11 @@ NotedAt k offsets made_tile (Err f) = ⊤
 NotedAt k offsets None (Ok is) = ⊥
 NotedAt k offsets (Some t) (Ok is) = into k is ≡ record { output = k; tile = t; offsets = offsets } ∷ []
 
+-- a body that doesn't fail leaves one insertion into the output of position k, at this region
+abbrev pub InsertsAt : ℕ → List ℕ → List ℕ → Result (List Insertion) Fault → Type 0
+InsertsAt k offsets sizes (Err f) = ⊤
+InsertsAt k offsets sizes (Ok is) = (i : Insertion) × (into k is ≡ i ∷ []) × (i.offsets ≡ offsets) × (i.tile.extents ≡ sizes)
+
 -- the output of position k starts from another value
 abbrev pub restarted : ℕ → ValueId → List (ValueId × Ty × ValueId) → List (ValueId × Ty × ValueId)
 restarted k v [] = []

@@ -28,7 +28,7 @@ use Rattle.point_laws.specs.Boxes.{picks}
 use Rattle.point_laws.specs.Folds.{Combines}
 use Rattle.point_laws.specs.Tiles.{Cut, counts, is_cut, cut_dims, tile_offsets}
 use Rattle.region_laws.specs.Bodies.{Input, AreInputs, AreSlicesOf, Slice, TileBody, DoesTile, IsOutputOf, Names, slice_ops, tiled_op, tile_ops, insert_op, sliced_body, noting_body, whole_body, slice_names, MeansTiled}
-use Rattle.region_laws.specs.Among.{GivesAt, BeginsAmong, NotedAt, IsWritten, restarted, IsNestAt, MakesTile}
+use Rattle.region_laws.specs.Among.{GivesAt, BeginsAmong, NotedAt, InsertsAt, IsWritten, restarted, IsNestAt, MakesTile}
 use Rattle.region_laws.specs.Spans.{AreSpans, span_offsets, span_sizes}
 use Rattle.region_laws.specs.Instances.{Instance, step_of, result_of, IsTypedInstance, FitsItsBox}
 use Rattle.region_laws.specs.Nests.{Level, TileLoop, AreNewVars, Begins, with_value, ended, noted, Turns, results_of, turns_op}
@@ -335,3 +335,18 @@ abbrev pub RegionsCover : Type 0
 RegionsCover = (box es : List ℕ) (axes : List (Option (ℕ × ℕ))) → AreSpans box es axes → (e : List ℕ) → InBox es e →
     (q : List ℕ) × InBox box q × ((turns : List ℕ) → InBox box turns →
     lies_in (span_offsets turns axes) (span_sizes turns es axes) e ≡ same_point q turns)
+
+-- so a shared output whose insertions stand so by the loop's variables may start from any tensor of its extents
+abbrev pub SpannedOutputMayStartAnywhere : Type 0
+SpannedOutputMayStartAnywhere = (u : State) (h : ForallHead) (k width : ℕ) (v : ValueId) (old new : Grid)
+    (inner inner' : List Op) (rs : List (ValueId × Ty)) (axes : List (Option (ℕ × ℕ))) →
+    let h' : ForallHead = record h { shared = restarted k v h.shared } in
+    AreSpans (forall_box u h) old.extents axes →
+    slice_get (starts u.values h.shared) k ≡ Some (Cells width old) → u.values v.0 ≡ Cells width new →
+    new.extents ≡ old.extents → IsFull old → IsFull new →
+    ((q : List ℕ) → InBox (forall_box u h) q →
+    insertions_of (run inner' (forall_state u h' q)) ≡ insertions_of (run inner (forall_state u h q))) →
+    ((q : List ℕ) → InBox (forall_box u h) q → InsertsAt k (span_offsets q axes) (span_sizes q old.extents axes)
+    (insertions_of (run inner (forall_state u h q)))) →
+    kind_meaning (Forall h.vars h.lower h.upper h.step (restarted k v h.shared) inner') rs u
+    ≡ kind_meaning (Forall h.vars h.lower h.upper h.step h.shared inner) rs u

@@ -7,6 +7,7 @@ ghost use Rattle.region_laws.specs.Laws.{BroadcastTileIsBroadcast, TileForMeansG
 ghost use Rattle.region_laws.specs.Laws.{InputsAreRecords, ForallBeginsAmong, TileIsMade, TileOfSliceIsMade};
 ghost use Rattle.region_laws.specs.Laws.{TileIsInserted, InsertionIsNoted, SliceOfResultIsTile, TileForGivesGeneric};
 ghost use Rattle.region_laws.specs.Laws.{TileForallGivesGeneric, CoveredOutputMayStartAnywhere, RegionsCover};
+ghost use Rattle.region_laws.specs.Laws.{SpannedOutputMayStartAnywhere};
 
 // The functions here have no code: their contracts are the laws, over the definitions in `specs/`.
 
@@ -67,4 +68,5 @@ pub fn loops_give_the_whole_among_others()
     ensures at_once { TileForallGivesGeneric }
     ensures starts { CoveredOutputMayStartAnywhere }
     ensures regions { RegionsCover }
+    ensures spanned { SpannedOutputMayStartAnywhere }
 {}

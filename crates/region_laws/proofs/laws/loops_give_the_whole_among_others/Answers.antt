@@ -1,6 +1,6 @@
 use Rattle.region_laws.proofs.NestsAt.{tile_for_gives}
 use Rattle.region_laws.proofs.Shared.{tile_forall_gives, may_start_anywhere}
-use Rattle.region_laws.proofs.Spans.{regions_cover}
+use Rattle.region_laws.proofs.Spans.{regions_cover, spanned_may_start}
 use Rattle.region_laws.proofs.laws.loops_give_the_whole_among_others.Goals as goal
 
 pub returns-clause-nest : goal.returns-clause-nest
@@ -14,3 +14,6 @@ returns-clause-starts c = may_start_anywhere
 
 pub returns-clause-regions : goal.returns-clause-regions
 returns-clause-regions c = regions_cover
+
+pub returns-clause-spanned : goal.returns-clause-spanned
+returns-clause-spanned c = spanned_may_start
