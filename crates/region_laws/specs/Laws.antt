@@ -222,7 +222,8 @@ InsertionIsNoted = (s : State) (id : OpId) (source dest : ValueId) (offsets size
           ++ record { output = k; tile = t; offsets = places_in s.values offsets } ∷ [];
     })
 
--- NAMED OPERATIONS: the tile of each is of its kind
+-- NAMED OPERATIONS
+-- the tile of a matmul is one
 abbrev pub MatmulTileIsMatmul : Type 0
 MatmulTileIsMatmul = (box : List ℕ) (cut : ℕ → Bool) (os ns : List ℕ) (x y : Datum) (width : ℕ)
     (a b : ValueId) (fs : List (ValueId × Option Slice)) → slice_names fs ≡ a ∷ b ∷ [] → length box ≡ 3 →
@@ -230,6 +231,7 @@ MatmulTileIsMatmul = (box : List ℕ) (cut : ℕ → Bool) (os ns : List ℕ) (x
     width
     (Parallel ∷ Parallel ∷ Reduction ∷ []) fs [] (multiply_add (width_of x) width) (λ outs. Matmul a b outs)
 
+-- that of a batch_matmul is one
 abbrev pub BatchMatmulTileIsBatchMatmul : Type 0
 BatchMatmulTileIsBatchMatmul = (box : List ℕ) (cut : ℕ → Bool) (os ns : List ℕ) (x y : Datum) (width : ℕ)
     (a b : ValueId) (fs : List (ValueId × Option Slice)) → slice_names fs ≡ a ∷ b ∷ [] → length box ≡ 4 →
@@ -245,17 +247,20 @@ MeansCopy box cut os ns ds x width fs kind =
     MeansTiled box cut os ns (select_map (length box) ds ∷ []) (count_up 0 (length box)) (x ∷ []) width
     (replicate (length box) Parallel) fs [] (copying width) kind
 
+-- that of a fill is one
 abbrev pub FillTileIsFill : Type 0
 FillTileIsFill = (box : List ℕ) (cut : ℕ → Bool) (os ns : List ℕ) (x : Datum) (width : ℕ)
     (v : ValueId) (fs : List (ValueId × Option Slice)) → slice_names fs ≡ v ∷ [] →
     MeansCopy box cut os ns [] x width fs (λ outs. Fill v outs)
 
+-- that of a transpose is one
 abbrev pub TransposeTileIsTranspose : Type 0
 TransposeTileIsTranspose = (box : List ℕ) (cut : ℕ → Bool) (os ns order : List ℕ) (x : Datum) (width : ℕ) (v : ValueId)
     (fs : List (ValueId × Option Slice)) → slice_names fs ≡ v ∷ [] → length order ≡ length box →
     MeansCopy box cut os ns (map (λ axis. place_of axis 0 order) (count_up 0 (length box))) x width fs
     (λ outs. Transpose v outs order)
 
+-- that of a broadcast is one
 abbrev pub BroadcastTileIsBroadcast : Type 0
 BroadcastTileIsBroadcast = (box : List ℕ) (cut : ℕ → Bool) (os ns added : List ℕ) (x : Datum) (width : ℕ) (v : ValueId)
     (fs : List (ValueId × Option Slice)) → slice_names fs ≡ v ∷ [] →
