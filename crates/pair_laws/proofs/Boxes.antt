@@ -26,7 +26,7 @@ use Rattle.mlir_verify.specs.Extents.{has_extent, axes_agree}
 use Rattle.verified_runs.specs.Forms.{kind_of}
 use Rattle.tile_bridge.proofs.Axes.{one_sized, short, axis_none, axis_some, selects_is, axes_of}
 use Rattle.pair_laws.specs.Laws.{FitsKeepsBox}
-use Rattle.fuse_laws.proofs.Moves.{get_seam}
+use Rattle.region_laws.proofs.Moves.{get_seam}
 use Rattle.verified_runs.specs.Typed.{IsSized}
 use Rattle.region_laws.specs.Operands.{IsThere, AxesHave, AllHave, HasBox}
 use Rattle.tile_bridge.specs.Instances.{HasExtents}

@@ -32,12 +32,14 @@ FusedFits = (p c : Structured) (k : ℕ) (m : MapShape) (ds : List ℕ) (dims ca
     Fit (joint_of p c k m ds) dims caps width others p.payload c.payload → c.payload.out ≡ Int w →
     IsPayload (fused_op p c k m ds).payload
 
+-- fusing a pair that stands in a body keeps the meaning of the function
 abbrev pub PairKeepsMeaning : Type 0
 PairKeepsMeaning = (f : FuncShape) (before mid after : List Op) (po co : Op) (p c : Structured) (k : ℕ) (m : MapShape)
     (ds : List ℕ) →
     Stands f before mid after po co p c k m ds → (inputs : List TensorShape) → AreOf (types_of f.params) inputs →
     meaning (fused_func f before mid after co (fused_op p c k m ds)) inputs ≡ meaning f inputs
 
+-- the captured values of two operations stand among those of both
 abbrev pub AllCapturedMeet : Type 0
 AllCapturedMeet = (p c : Structured) (u : State) → CapturedMeet p c u
 
@@ -70,6 +72,7 @@ FusedPairPasses = (f : FuncShape) (x : Pair) → FuncPasses f → first_pair f �
 abbrev pub FuseAllPasses : Type 0
 FuseAllPasses = (f g : FuncShape) → FuncPasses f → fuse_all f ≡ Ok g → FuncPasses g
 
+-- on all inputs of its parameters' types
 abbrev pub FuseAllKeepsMeaning : Type 0
 FuseAllKeepsMeaning = (f g : FuncShape) → FuncPasses f → fuse_all f ≡ Ok g →
     (inputs : List TensorShape) → AreOf (types_of f.params) inputs → meaning g inputs ≡ meaning f inputs

@@ -3,9 +3,14 @@ use Rattle.std.proofs.Common.{◌≡◌, ℕ, suc, ◌+◌, ◌-◌, ◌<◌, �
 use Rattle.std.specs.Prelude.{zip, ⊤}
 use Rattle.std.specs.List.{list_all}
 use Rattle.std.proofs.lemmas.Bool.{and_parts}
+use Rattle.std.proofs.lemmas.List.{length-map}
 use Rattle.affine_maps.specs.Shape.{MapShape}
 use Rattle.affine_maps.specs.Map.{IsMap, map_fits}
 use Rattle.mlir_base.specs.Types.{bits_of}
+use Rattle.payload_ops.specs.Values.{is_supplied}
+use Rattle.payload_ops.specs.declared.step.PayloadStep.{PayloadStep}
+use Rattle.payload_ops.specs.declared.step.StepOp.{StepOp}
+use Rattle.payload_ops.specs.declared.step.StepOp.TheVariants as S
 use Rattle.mlir_base.specs.declared.types.ElemTy.{ElemTy}
 use Rattle.mlir_base.specs.declared.types.ElemTy.TheVariants.{Int, Index}
 use Rattle.mlir_ir.specs.declared.tree.Iter.{Iter}
@@ -14,7 +19,7 @@ use Rattle.mlir_ir.specs.declared.tree.Ty.{Ty}
 use Rattle.mlir_ir.specs.declared.tree.Ty.TheVariants.{Scalar, Tensor, Vector}
 use Rattle.mlir_ir.specs.declared.tree.ValueId.{ValueId}
 use Rattle.mlir_meaning.specs.Grids.{IsFull, Each}
-use Rattle.mlir_meaning.specs.Meaning.{values_in, captured_in}
+use Rattle.mlir_meaning.specs.Meaning.{values_in, captured_in, scalar_in}
 use Rattle.mlir_meaning.specs.Points.{has}
 use Rattle.mlir_meaning.specs.States.{State, made, grid_of, width_of}
 use Rattle.mlir_meaning.specs.Structured.{generic_result, operand_extent}
@@ -24,7 +29,7 @@ use Rattle.mlir_meaning.proofs.States.{generic_runs}
 use Rattle.mlir_verify.specs.Constants.{Constants}
 use Rattle.mlir_verify.specs.Place.{Types}
 use Rattle.mlir_verify.specs.Tensors.{extents_of, has_elements}
-use Rattle.mlir_verify.specs.Types.{is_input, is_typed}
+use Rattle.mlir_verify.specs.Types.{names_present, is_input, is_typed}
 use Rattle.mlir_verify.specs.Maps.{breaks_maps, breaks_iterators, fit_operands, cover_dimensions, match_output, is_iterator, output_map, output_dimensions}
 use Rattle.mlir_verify.specs.Extents.{breaks_extents, keeps_extents}
 use Rattle.mlir_verify.specs.Windows.{breaks_windows, inputs_stay_in}
@@ -93,6 +98,31 @@ module _ (t : Types) (c : Constants) (u : State) (typed : AreTyped t u) where
   inputs_sized (v ∷ ins) (e ∷ es) l h =
       let parts = and_parts (is_input (t v.0) (c v.0) e) _ h in
       (holds_extents (t v.0) (u.values v.0) (input_is (t v.0) (c v.0) e parts.0) (typed v.0), inputs_sized ins es (omega arith) parts.1)
+
+element_is : (o : Option Ty) (e : ElemTy) → has_elements o e ≡ true → (w : ℕ) × (e ≡ Int w)
+element_is (Some (Tensor es v)) (Int b) h = (b, refl)
+element_is (Some (Tensor es v)) Index h = absurd cc
+element_is (Some (Scalar x)) e h = absurd cc
+element_is (Some (Vector es w)) e h = absurd cc
+element_is None e h = absurd cc
+
+-- what the steps name is there
+present_is : (dims caps : ℕ) (op : StepOp) → is_supplied dims caps op ≡ names_present dims caps op
+present_is dims caps (S.Const n) = refl
+present_is dims caps (S.Index d) = refl
+present_is dims caps (S.Captured k) = refl
+present_is dims caps (S.Linear c ts) = refl
+present_is dims caps (S.Binary op a b) = refl
+present_is dims caps (S.Compare c a b) = refl
+present_is dims caps (S.Select c a b) = refl
+present_is dims caps (S.SignExtend a) = refl
+present_is dims caps (S.ZeroExtend a) = refl
+present_is dims caps (S.Truncate a) = refl
+present_is dims caps (S.IndexCast a) = refl
+
+all_supplied : (dims caps : ℕ) (ss : List PayloadStep) → list_all (λ (s : PayloadStep). names_present dims caps s.op) ss ≡ true → Each (λ (s : PayloadStep). is_supplied dims caps s.op ≡ true) ss
+all_supplied dims caps [] h = tt
+all_supplied dims caps (s ∷ ss) h = let parts = and_parts (names_present dims caps s.op) _ h in (present_is dims caps s.op ∙ parts.0, all_supplied dims caps ss parts.1)
 
 maps_each : (ms : List MapShape) → list_all map_fits ms ≡ true → Each IsMap ms
 maps_each [] h = tt
@@ -176,6 +206,9 @@ module _ (t : Types) (c : Constants) (wanted : List Ty) (rs : List (ValueId × T
         width = out.width;
         below = out.below;
         payload = steps.1;
+        element = element_is (t g.outs.0) g.payload.out rest.0;
+        supplied = subst (λ (n : ℕ). Each (λ (s : PayloadStep). is_supplied n (length (captured_in u.values g.captured)) s.op ≡ true) g.payload.steps) (box_rank t u g.maps g.iterators g.ins g.outs p)
+            (subst (λ (n : ℕ). Each (λ (s : PayloadStep). is_supplied (length g.iterators) n s.op ≡ true) g.payload.steps) (sym (length-map g.captured (scalar_in u.values))) (all_supplied (length g.iterators) (length g.captured) g.payload.steps steps.0));
         once = ap repeats ds_is ∙ out_once t u g.maps g.iterators g.ins g.outs p;
         parallel = parallel_there;
       }
