@@ -48,7 +48,7 @@ read_counts box (m ∷ ms) (x ∷ xs) h = ap suc (read_counts box ms xs h.1)
 read_counts box [] (x ∷ xs) h = absurd h
 read_counts box (m ∷ ms) [] h = absurd h
 
-read_at : (box : List ℕ) (ms : List MapShape) (xs : List Datum) (k : ℕ) (m : MapShape) (x : Datum) → AreRead box ms xs → slice_get ms k ≡ Some m → slice_get xs k ≡ Some x → IsRead box m x
+pub read_at : (box : List ℕ) (ms : List MapShape) (xs : List Datum) (k : ℕ) (m : MapShape) (x : Datum) → AreRead box ms xs → slice_get ms k ≡ Some m → slice_get xs k ≡ Some x → IsRead box m x
 read_at box (n ∷ ms) (y ∷ xs) zero m x h e f = subst (λ z. IsRead box m z) (same_Some y x f) (subst (λ z. IsRead box z y) (same_Some n m e) h.0)
 read_at box (n ∷ ms) (y ∷ xs) (suc k) m x h e f = read_at box ms xs k m x h.1 e f
 read_at box [] (x ∷ xs) k m y h e f = absurd h
@@ -56,7 +56,7 @@ read_at box (m ∷ ms) [] k n y h e f = absurd h
 read_at box [] [] zero m x h e f = absurd (none-some m e)
 read_at box [] [] (suc k) m x h e f = absurd (none-some m e)
 
-spliced_length : {A B : Type 0} (k : ℕ) (ys : List A) (zs : List B) (xs : List A) (ws : List B) → length ys ≡ length zs → length xs ≡ length ws → length (spliced k ys xs) ≡ length (spliced k zs ws)
+pub spliced_length : {A B : Type 0} (k : ℕ) (ys : List A) (zs : List B) (xs : List A) (ws : List B) → length ys ≡ length zs → length xs ≡ length ws → length (spliced k ys xs) ≡ length (spliced k zs ws)
 spliced_length k ys zs [] [] e f = refl
 spliced_length k ys zs [] (w ∷ ws) e f = absurd (omega arith)
 spliced_length k ys zs (x ∷ xs) [] e f = absurd (omega arith)

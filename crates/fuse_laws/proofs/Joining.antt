@@ -1,5 +1,5 @@
 -- The joined payload.
-use Rattle.std.proofs.Common.{◌≡◌, ◌≢◌, ℕ, zero, suc, ◌+◌, ◌-◌, ◌<◌, ◌%◌, ◌^◌, ◌&&◌, eqb-true, mod-eq_of_lt, true, List, [], ◌∷◌, ◌++◌, map, length, get_or, Option, Some, None, ⊎_elim, refl, ap, sym, subst, ◌∙◌, arith, append_assoc, ltb-true, zero-add}
+use Rattle.std.proofs.Common.{◌≡◌, ◌≢◌, ℕ, zero, suc, ◌+◌, ◌-◌, ◌<◌, ◌%◌, ◌^◌, ◌&&◌, mod-eq_of_lt, true, List, [], ◌∷◌, ◌++◌, map, length, get_or, Option, Some, None, ⊎_elim, refl, ap, sym, subst, ◌∙◌, arith, ltb-true, zero-add}
 use Rattle.std.specs.Prelude.{option_map, option_and_then, slice_get, if◌then◌else◌, ⊤}
 use Rattle.std.proofs.lemmas.Bool.{and_parts}
 use Rattle.std.proofs.lemmas.Bool.Decides.{eqb_tells}
@@ -22,10 +22,11 @@ use Rattle.payload_ops.proofs.Words.{reduce-lt}
 use Rattle.payload_ops.proofs.StepsLemmas.{steps_values-append}
 use Rattle.mlir_meaning.specs.Grids.{count_up, Each}
 use Rattle.point_laws.proofs.Tables.{tabled_at, tabled_length}
-use Rattle.fuse_laws.specs.Moved.{args_of, captured_step}
-use Rattle.fuse_laws.specs.Joined.{spliced, other, expr_at, producer_index, own_index, Joint, front, producer_to, producer_steps, consumer_to, consumer_steps, joined, IsNotOut, Fit, Meets}
-use Rattle.fuse_laws.proofs.Moves.{each_then, get_left, Both, steps_fit-append, type_in, type_new}
-use Rattle.fuse_laws.proofs.Alike.{Typed, Agree, Alike, Supplied, blocks_alike}
+use Rattle.region_laws.specs.Moved.{args_of, captured_step, own_index}
+use Rattle.fuse_laws.specs.Joined.{spliced, other, expr_at, producer_index, Joint, front, producer_to, producer_steps, consumer_to, consumer_steps, joined, IsNotOut, Fit, Meets}
+use Rattle.region_laws.proofs.Moves.{each_then, get_left, Both, steps_fit-append, type_in, type_new}
+use Rattle.region_laws.proofs.Alike.{Typed, Agree, Alike, Supplied, blocks_alike}
+use Rattle.region_laws.proofs.Fronts.{no_step, captured_values, front_run, front_fits, front_at, yields}
 use Rattle.fuse_laws.proofs.Applied.{applied_run, applied_fits, applied_typed, applied_at, values_length}
 use Rattle.fuse_laws.specs.Laws.{JoinedGives}
 use Rattle.fuse_laws.specs.Laws.{JoinedFits}
@@ -34,10 +35,6 @@ use Rattle.fuse_laws.specs.Laws.{JoinedFits}
 nothing : (A : Type 0) (i : ℕ) → slice_get {X = A} [] i ≡ None
 nothing A zero = refl
 nothing A (suc i) = refl
-
-pub no_step : (i : ℕ) (t : ElemTy) → option_map (λ (s : PayloadStep). s.ty) (slice_get {X = PayloadStep} [] i) ≡ Some t → ⊥
-no_step zero t e = none-some t e
-no_step (suc i) t e = none-some t e
 
 pub other_get : {A : Type 0} (k : ℕ) (ys xs : List A) (i : ℕ) → i ≢ k → slice_get (spliced k ys xs) (other k (length ys) i) ≡ slice_get xs i
 other_get {A} k ys [] i n = nothing A (other k (length ys) i) ∙ sym (nothing A i)
@@ -71,35 +68,6 @@ get_or_same xs ys i j d e = by (slice_get ys j) refl where
   by : (o : Option _) → slice_get ys j ≡ o → get_or xs i d ≡ get_or ys j d
   by None q = missing xs i d (e ∙ q) ∙ sym (missing ys j d q)
   by (Some y) q = get_or_from_slice_get xs i y d (e ∙ q) ∙ sym (get_or_from_slice_get ys j y d q)
-
--- ONE STEP FOR EACH CAPTURED VALUE
-module _ (p : PayloadShape) (g : Given) where
-  abbrev pub captured_values : ℕ → List ℕ
-  captured_values c = map (λ i. get_or g.outer i 0 % 2 ^ 64) (count_up 0 c)
-
-  pub front_run : (is done : List ℕ) → steps_values p g (map captured_step is) done ≡ Some (done ++ map (λ i. get_or g.outer i 0 % 2 ^ 64) is)
-  unfolding op_value
-  front_run [] done = ap Some (sym (append-nil done))
-  front_run (i ∷ is) done = front_run is (done ++ (get_or g.outer i 0 % 2 ^ 64) ∷ []) ∙ ap Some (append_assoc done ((get_or g.outer i 0 % 2 ^ 64) ∷ []) (map (λ i. get_or g.outer i 0 % 2 ^ 64) is))
-
-  pub front_fits : (is : List ℕ) (pre : List PayloadStep) → steps_fit p.ins p.out (map captured_step is) pre ≡ true
-  front_fits [] pre = refl
-  front_fits (i ∷ is) pre = front_fits is (pre ++ captured_step i ∷ [])
-
-pub front_at : (c k : ℕ) → k < c → slice_get (map captured_step (count_up 0 c)) k ≡ Some (captured_step k)
-front_at c k l = slice_get-get_or (map captured_step (count_up 0 c)) k (captured_step 0) (omega (arith, tabled_length captured_step c)) ∙ ap Some (tabled_at captured_step c k (captured_step 0) l)
-
-same_type : (t u : ElemTy) → is_elem t u ≡ true → t ≡ u
-same_type (Int v) (Int w) h = ap Int (eqb-true v w h)
-same_type (Int v) IndexType h = absurd cc
-same_type IndexType (Int w) h = absurd cc
-same_type IndexType IndexType h = refl
-
-pub yields : (p : PayloadShape) → IsPayload p → type_in p p.steps p.yielded ≡ Some p.out
-yields p h = by (type_in p p.steps p.yielded) refl (and_parts (steps_fit p.ins p.out p.steps []) _ h).1 where
-  by : (o : Option ElemTy) → type_in p p.steps p.yielded ≡ o → has_type o p.out ≡ true → o ≡ Some p.out
-  by None q h = absurd cc
-  by (Some t) q h = ap Some (same_type t p.out h)
 
 module _ (j : Joint) (dims caps width others : ℕ) (producer consumer : PayloadShape) (f : Fit j dims caps width others producer consumer)
     (p q outer outer_p outer_c ins_p ins_c : List ℕ) (out any : ℕ) (m : Meets j dims caps others p q outer outer_p outer_c)
@@ -148,13 +116,13 @@ module _ (j : Joint) (dims caps width others : ℕ) (producer consumer : Payload
   to_p = producer_to j producer consumer
 
   producer_supplied : (op : StepOp) → is_supplied dims caps op ≡ true → Supplied producer both of_p given to_p ([], known) fs IsNotOut (producer_index j.exprs) j.of_producer op
-  producer_supplied (Index d) h = λ pre'.
+  producer_supplied (Index d) h = λ pre' mid behind.
       let e = expr_at j.exprs d in
       let l : d < dims = ltb-true d dims h in
       record {
         fits = applied_fits both given e pre' (f.small d l);
         typed = applied_typed both given e pre';
-        runs = λ done k. (_, values_length both given e (length pre'), applied_run both given e (length pre') done k, applied_at both given e (length pre') done k ∙ m.points d l);
+        runs = λ done past k b. (_, values_length both given e (length pre'), applied_run both given e (length pre') done k, applied_at both given e (length pre') done k ∙ m.points d l);
       }
   producer_supplied (Captured k) h = let l : k < caps = ltb-true k caps h in captured_there (j.of_producer k) (f.of_producer k l) (get_or outer_p k 0) (m.producer_outer k l)
   producer_supplied (Const n) h = tt
@@ -232,10 +200,10 @@ module _ (j : Joint) (dims caps width others : ℕ) (producer consumer : Payload
   module _ (v : ℕ) where
     consumer_supplied : (op : StepOp) → is_supplied width others op ≡ true → Supplied consumer both (of_c v) given to_c ([], known) fs IsAny own_index j.of_consumer op
     unfolding op_value
-    consumer_supplied (Index d) h = λ pre'. record {
+    consumer_supplied (Index d) h = λ pre' mid behind'. record {
       fits = refl;
       typed = type_new both pre' (record { ty = IndexType; op = Index d }) [] (length pre' + 1 - 1) (omega arith);
-      runs = λ done k. ((get_or p d 0 % 2 ^ 64) ∷ [], refl, refl, (let e : length pre' + 1 - 1 ≡ length done = omega (arith, k) in ap (λ i. get_or (done ++ (get_or p d 0 % 2 ^ 64) ∷ []) i 0) e ∙ last done (get_or p d 0 % 2 ^ 64)));
+      runs = λ done past k b. ((get_or p d 0 % 2 ^ 64) ∷ [], refl, refl, (let e : length pre' + 1 - 1 ≡ length done = omega (arith, k) in ap (λ i. get_or (done ++ (get_or p d 0 % 2 ^ 64) ∷ []) i 0) e ∙ last done (get_or p d 0 % 2 ^ 64)));
     } where
       last : (done : List ℕ) (x : ℕ) → get_or (done ++ x ∷ []) (length done) 0 ≡ x
       last [] x = refl

@@ -8,13 +8,11 @@ use Rattle.payload_ops.specs.Payload.{IsPayload}
 use Rattle.payload_ops.specs.Values.{is_supplied}
 use Rattle.affine_maps.specs.declared.map.Expr.{Expr}
 use Rattle.payload_ops.specs.Shape.{PayloadShape}
-use Rattle.mlir_base.specs.declared.types.ElemTy.TheVariants.{Index as IndexType}
 use Rattle.payload_ops.specs.declared.step.Arg.{Arg}
 use Rattle.payload_ops.specs.declared.step.Arg.TheVariants.{Input, Out, Step}
 use Rattle.payload_ops.specs.declared.step.PayloadStep.{PayloadStep}
-use Rattle.payload_ops.specs.declared.step.StepOp.TheVariants.{Linear}
 use Rattle.mlir_meaning.specs.Grids.{count_up, Each}
-use Rattle.fuse_laws.specs.Moved.{args_of, index_step, captured_step, numbers, blocks, number_at}
+use Rattle.region_laws.specs.Moved.{args_of, index_step, captured_step, linear_step, own_index, numbers, blocks, number_at}
 
 -- entry k of a list gives way to the entries of another one: operands, maps, types and values
 abbrev pub spliced : {A : Type 0} → ℕ → List A → List A → List A
@@ -35,21 +33,15 @@ abbrev pub numbered_terms : ℕ → List (ℕ × ℤ) → List (Arg × ℤ)
 numbered_terms n [] = []
 numbered_terms n (t ∷ ts) = (Step n, t.1) ∷ numbered_terms (suc n) ts
 
-abbrev pub linear_step : ℤ → List (Arg × ℤ) → PayloadStep
-linear_step constant terms = record { ty = IndexType; op = Linear constant terms }
-
 abbrev pub applied : Expr → ℕ → List PayloadStep
 applied e n = map (λ (t : ℕ × ℤ). index_step t.0) e.terms ++ linear_step e.constant (numbered_terms n e.terms) ∷ []
 
 abbrev pub expr_at : List Expr → ℕ → Expr
 expr_at es d = slice_index_or es d (record { constant = pos 0; terms = [] })
 
--- a `linalg.index` of the producer, by the consumer's dimensions; and one of the consumer
+-- a `linalg.index` of the producer, by the consumer's dimensions
 abbrev pub producer_index : List Expr → ℕ → ℕ → List PayloadStep
 producer_index es d n = applied (expr_at es d) n
-
-abbrev pub own_index : ℕ → ℕ → List PayloadStep
-own_index d n = index_step d ∷ []
 
 -- what two payloads are joined by: the consumer's input, the producer's dimensions as expressions of the
 -- consumer's, the number of captured values of both together, and where among these those of each stand

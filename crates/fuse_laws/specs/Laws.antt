@@ -1,15 +1,11 @@
 -- The laws. Each is the contract of a function in `src/laws.rt`.
-use Rattle.std.specs.Prelude.{◌≡◌, ℕ, ◌<◌, true, List, [], ◌∷◌, map, length, slice_get, slice_index_or, Some, Option}
+use Rattle.std.specs.Prelude.{◌≡◌, ℕ, true, List, [], ◌∷◌, length, slice_get, Some, Option}
 use Rattle.std.specs.Option.{option_and_then}
 use Rattle.payload_ops.specs.Payload.{IsPayload}
-use Rattle.payload_ops.specs.Values.{payload_value, is_supplied}
+use Rattle.payload_ops.specs.Values.{payload_value}
 use Rattle.payload_ops.specs.Shape.{PayloadShape}
-use Rattle.payload_ops.specs.declared.step.Arg.{Arg}
-use Rattle.payload_ops.specs.declared.step.PayloadStep.{PayloadStep}
-use Rattle.mlir_meaning.specs.Grids.{Each, at, InBox}
+use Rattle.mlir_meaning.specs.Grids.{at, InBox}
 use Rattle.fuse_laws.specs.Joined.{spliced, Joint, joined, Fit, Meets}
-use Rattle.mlir_base.specs.declared.types.ElemTy.{ElemTy}
-use Rattle.fuse_laws.specs.Captured.{hoisted, used, others, in_front, placed, IsBehind, IsNotCaptured}
 use Rattle.affine_maps.specs.Shape.{MapShape}
 use Rattle.mlir_meaning.specs.declared.values.Datum.{Datum}
 use Rattle.mlir_meaning.specs.declared.values.Grid.{Grid}
@@ -37,28 +33,6 @@ JoinedGives = (j : Joint) (dims caps width others : ℕ) (producer consumer : Pa
 abbrev pub JoinedFits : Type 0
 JoinedFits = (j : Joint) (dims caps width others : ℕ) (producer consumer : PayloadShape) →
     Fit j dims caps width others producer consumer → IsPayload (joined j producer consumer)
-
--- it gives what the payload gave; so payloads that are the same with their captured values in front give the same
-abbrev pub HoistedGives : Type 0
-HoistedGives = (c width caps : ℕ) (f : ℕ → ℕ) (p : PayloadShape) → IsPayload p →
-    Each (λ (s : PayloadStep). is_supplied width caps s.op ≡ true) p.steps →
-    ((k : ℕ) → k < caps → f k < c) → (point outer own ins : List ℕ) (out : ℕ) →
-    ((k : ℕ) → k < caps → slice_index_or outer (f k) 0 ≡ slice_index_or own k 0) →
-    payload_value (hoisted c f p) (record { point = point; outer = outer; ins = ins; out = out })
-    ≡ payload_value p (record { point = point; outer = own; ins = ins; out = out })
-
--- each captured value that is used has one step, right before the first step that uses it; the others have none,
--- and the payload gives the same
-abbrev pub PlacedGives : Type 0
-PlacedGives = (c : ℕ) (ins_t : List ElemTy) (out_t : ElemTy) (rest : List PayloadStep) (yielded : Arg) →
-    IsPayload (in_front c ins_t out_t rest yielded) → Each (λ (s : PayloadStep). IsNotCaptured s.op) rest →
-    IsBehind c yielded →
-    (point outer ins : List ℕ) (out : ℕ) →
-    IsPayload (placed c ins_t out_t rest yielded)
-    × (payload_value (placed c ins_t out_t rest yielded)
-    (record { point = point; outer = map (λ k. slice_index_or outer k 0) (used c [] rest); ins = ins; out = out })
-    ≡ payload_value (in_front c ins_t out_t rest yielded)
-    (record { point = point; outer = outer; ins = ins; out = out }))
 
 -- THE ONE POINT OF AN ELEMENT
 -- where the output's map takes each dimension once, an element is the payload's value at one point: the element's

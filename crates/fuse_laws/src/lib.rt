@@ -3,9 +3,8 @@
 //! The law functions, [`payloads_are_joined`] and [`generics_are_fused`], have no code: their contracts are
 //! the laws.
 //!
-//! The definitions stand in `specs/`: `Moved` (payloads whose steps stand in other places), `Joined` (the
-//! payload of two generics), `Captured` (where captured values have their steps), `Fused` (the fused generic),
-//! and `Laws`.
+//! The definitions stand in `specs/`: `Joined` (the payload of two generics), `Fused` (the fused generic), and
+//! `Laws`. Where captured values have their steps is a law of `region_laws`.
 #![tactic(auto)]
 
 mod laws;

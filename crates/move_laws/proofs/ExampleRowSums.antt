@@ -17,9 +17,9 @@ use Rattle.mlir_meaning.specs.Grids.{at, InBox, Each}
 use Rattle.mlir_meaning.specs.Moves.{pad_of, pack_of}
 use Rattle.mlir_meaning.specs.Points.{has, select_map}
 use Rattle.mlir_meaning.specs.Structured.{operand_extent, generic_result}
-use Rattle.region_laws.specs.Operands.{IsPlain, IsThere, maps_of}
+use Rattle.region_laws.specs.Operands.{IsPlain, IsThere, maps_of, Operand, olds, maps_in}
 use Rattle.point_laws.specs.Folds.{Combines, CannotTrap}
-use Rattle.move_laws.specs.Operands.{Operand, Moved, before, olds, maps_in}
+use Rattle.move_laws.specs.Operands.{Moved, before}
 use Rattle.move_laws.specs.Pads.{padded, Pads, Absorbs, pads_of, unpadded}
 use Rattle.move_laws.specs.Packs.{packed, packed_box, packed_dims, packed_maps, Packs, PackAbsorbs, zeros_of, unpacked}
 use Rattle.move_laws.proofs.Stated.{padded_is, packed_is}

@@ -27,7 +27,7 @@ use Rattle.mlir_meaning.specs.Structured.{fold_points, operand_extent, generic_s
 use Rattle.mlir_meaning.proofs.Grids.{each_more, each_point, settled_same, settled_some, inside_true, inside_in}
 use Rattle.mlir_meaning.proofs.Settled.{HasCells, HasTrap, view}
 use Rattle.point_laws.specs.Tiles.{tile_count}
-use Rattle.region_laws.specs.Operands.{IsThere, ReadsAxes, IsTyped, maps_of}
+use Rattle.region_laws.specs.Operands.{IsThere, ReadsAxes, IsTyped, maps_of, Operand, maps_in, olds, news}
 use Rattle.point_laws.specs.Boxes.{picks}
 use Rattle.point_laws.specs.Folds.{then_step, CannotTrap}
 use Rattle.region_laws.proofs.Extents.{typed_by}
@@ -35,7 +35,6 @@ use Rattle.region_laws.proofs.Inner.{generic_is}
 use Rattle.point_laws.proofs.Lists.{each-filter, each-passes, each-and}
 use Rattle.point_laws.proofs.Folds.{fold_any_order}
 use Rattle.point_laws.proofs.Stated.{combiners_swap}
-use Rattle.move_laws.specs.Operands.{Operand, maps_in, olds, news}
 use Rattle.move_laws.specs.Packs.{outers, inners, outer_box, inner_box, packed_box, merged, cut_axes, cut_sizes, packed_before, inner_axes, packed_dims, packed_map, packed_maps, AxesPack, Packs, IsPointFree, zeros_of, OutputPacked, PackAbsorbs, output_tiles, unpacked}
 use Rattle.point_laws.proofs.Inside.{fold_inside, never_none}
 use Rattle.move_laws.proofs.Merged.{merged_back, outers_in, inners_in, in_append, Split, outer_length, outer_is, inner_is}

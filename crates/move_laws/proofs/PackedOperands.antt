@@ -19,9 +19,8 @@ use Rattle.mlir_meaning.specs.Points.{map_point, dimension_of, selects}
 use Rattle.mlir_meaning.specs.States.{grid_of, element}
 use Rattle.mlir_meaning.specs.Structured.{axis_extent, operand_extent, elements}
 use Rattle.mlir_meaning.proofs.Grids.{each-append, inside_true, outside_false}
-use Rattle.region_laws.specs.Operands.{IsPlain, ReadsAxes, AxesFit, AllFit, IsThere}
+use Rattle.region_laws.specs.Operands.{IsPlain, ReadsAxes, AxesFit, AllFit, IsThere, Operand, maps_in, olds, news}
 use Rattle.region_laws.proofs.Extents.{reads_inside}
-use Rattle.move_laws.specs.Operands.{Operand, maps_in, olds, news}
 use Rattle.move_laws.specs.Packs.{outer_box, inner_box, packed_box, merged, cut_axes, cut_sizes, packed_before, axis_tile, axis_tiles, axis_place, with_inner, inner_axes, packed_map, packed_maps, IsPacked, StaysAxis, AxesPack, PacksOperand, zeros_of}
 use Rattle.region_laws.proofs.Lone.{selected_some}
 use Rattle.move_laws.proofs.Merged.{in_append, outer_length, at-packed, packed_extents}

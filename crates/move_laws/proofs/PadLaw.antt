@@ -27,11 +27,10 @@ use Rattle.mlir_meaning.specs.Structured.{fold_points, axis_extent, operand_exte
 use Rattle.mlir_meaning.proofs.Cells.{same_point-true}
 use Rattle.mlir_meaning.proofs.Grids.{settled_same, settled_some, inside_true, inside_in}
 use Rattle.mlir_meaning.proofs.Settled.{HasCells, HasTrap, view}
-use Rattle.region_laws.specs.Operands.{IsThere, IsTyped, maps_of}
+use Rattle.region_laws.specs.Operands.{IsThere, IsTyped, maps_of, Operand, maps_in, olds, news}
 use Rattle.point_laws.specs.Boxes.{picks, Grows, zeros}
 use Rattle.region_laws.proofs.Extents.{typed_by}
 use Rattle.region_laws.proofs.Inner.{generic_is}
-use Rattle.move_laws.specs.Operands.{Operand, maps_in, olds, news}
 use Rattle.move_laws.specs.Pads.{highs, IsPadded, PadsOperand, Pads, pads_of, OutputGrows, Absorbs, unpadded}
 use Rattle.point_laws.specs.Folds.{CannotTrap}
 use Rattle.point_laws.proofs.Inside.{grow_in, grow_length, plus-zeros, element_inside, grow_get, Leaves, leaves_at, never_none}

@@ -18,10 +18,9 @@ use Rattle.mlir_meaning.specs.Points.{to_nat, map_point, dimension_of, selects}
 use Rattle.mlir_meaning.specs.States.{element}
 use Rattle.mlir_meaning.specs.Structured.{elements}
 use Rattle.mlir_meaning.proofs.Grids.{at-tabulate, inside_true, outside_false}
-use Rattle.region_laws.specs.Operands.{reach, IsPlain, ReadsBy, ReadsAxes, AxesFit, AllFit}
+use Rattle.region_laws.specs.Operands.{reach, IsPlain, ReadsBy, ReadsAxes, AxesFit, AllFit, Operand, maps_in, olds, news}
 use Rattle.point_laws.specs.Boxes.{NoPoints, Grows}
 use Rattle.region_laws.proofs.Extents.{reads_inside}
-use Rattle.move_laws.specs.Operands.{Operand, maps_in, olds, news}
 use Rattle.move_laws.specs.Pads.{highs, IsPadded, PadsBy, PadsAxes, AxesPad, PadsOperand, pads_of}
 use Rattle.point_laws.proofs.Inside.{grow_in, grow_length, plus-zeros, grow_get}
 use Rattle.region_laws.proofs.Lone.{lone_value, selected_some}

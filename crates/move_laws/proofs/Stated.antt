@@ -9,9 +9,8 @@ use Rattle.mlir_meaning.specs.declared.values.Datum.TheVariants.{Cells}
 use Rattle.point_laws.proofs.Inside.{grow_length}
 use Rattle.region_laws.specs.Bodies.{after}
 use Rattle.region_laws.specs.Instances.{result_of}
-use Rattle.region_laws.specs.Operands.{maps_of}
+use Rattle.region_laws.specs.Operands.{maps_of, maps_in, news}
 use Rattle.move_laws.specs.Laws.{PaddedIsGeneric, PaddedInputsAreGeneric, PackedIsGeneric, PackedInputsAreGeneric, PaddedRunsAsGeneric, PackedRunsAsGeneric}
-use Rattle.move_laws.specs.Operands.{maps_in, news}
 use Rattle.move_laws.specs.Pads.{padded, unpadded}
 use Rattle.move_laws.specs.Packs.{packed, output_tiles, cut_axes, cut_sizes, unpacked}
 use Rattle.move_laws.proofs.Operations.{result_then, slice_back, unpack_back}

@@ -15,10 +15,10 @@ use Rattle.mlir_meaning.specs.Structured.{operand_extent}
 use Rattle.mlir_meaning.specs.declared.values.Datum.{Datum}
 use Rattle.mlir_meaning.specs.declared.values.Datum.TheVariants.{Cells}
 use Rattle.mlir_meaning.specs.declared.values.Grid.{Grid}
-use Rattle.region_laws.specs.Operands.{IsPlain, reach, IsThere, maps_of}
+use Rattle.region_laws.specs.Operands.{IsPlain, reach, IsThere, maps_of, Operand, maps_in, olds, news}
 use Rattle.point_laws.specs.Boxes.{NoPoints, picks, Grows, zeros}
 use Rattle.point_laws.specs.Folds.{Combines}
-use Rattle.move_laws.specs.Operands.{Operand, Moved, maps_in, olds, news}
+use Rattle.move_laws.specs.Operands.{Moved}
 use Rattle.region_laws.specs.Instances.{Instance}
 use Rattle.point_laws.specs.Folds.{CannotTrap}
 

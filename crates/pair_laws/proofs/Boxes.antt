@@ -14,7 +14,7 @@ use Rattle.mlir_ir.specs.declared.tree.Extent.TheVariants.{Fixed, Any}
 use Rattle.mlir_ir.specs.declared.tree.ValueId.{ValueId}
 use Rattle.mlir_ir.specs.Count.{first}
 use Rattle.mlir_meaning.specs.Grids.{Each}
-use Rattle.mlir_meaning.specs.Points.{dimension_of, selects}
+use Rattle.mlir_meaning.specs.Points.{selects}
 use Rattle.mlir_meaning.specs.States.{State, grid_of}
 use Rattle.mlir_meaning.specs.Meaning.{values_in}
 use Rattle.mlir_meaning.specs.Structured.{axis_extent, operand_extent}
@@ -26,7 +26,7 @@ use Rattle.mlir_verify.specs.Extents.{has_extent, axes_agree}
 use Rattle.verified_runs.specs.Forms.{kind_of}
 use Rattle.tile_bridge.proofs.Axes.{one_sized, short, axis_none, axis_some, selects_is, axes_of}
 use Rattle.pair_laws.specs.Laws.{FitsKeepsBox}
-use Rattle.fuse_laws.proofs.Moves.{get_seam}
+use Rattle.region_laws.proofs.Moves.{get_seam}
 use Rattle.verified_runs.specs.Typed.{IsSized}
 use Rattle.region_laws.specs.Operands.{IsThere, AxesHave, AllHave, HasBox}
 use Rattle.tile_bridge.specs.Instances.{HasExtents}
@@ -60,7 +60,7 @@ module _ (known : ℕ → Option Extent) (d n : ℕ) (is : known d ≡ Some (Fix
   axes_have (e ∷ es) [] (y ∷ ys) s h = absurd s
   axes_have (e ∷ es) (x ∷ xs) [] s h = absurd (short x xs s)
 
-all_left : (f : Axis → Bool) (xs ys : List Axis) → list_all f (xs ++ ys) ≡ true → (list_all f xs ≡ true) × (list_all f ys ≡ true)
+pub all_left : (f : Axis → Bool) (xs ys : List Axis) → list_all f (xs ++ ys) ≡ true → (list_all f xs ≡ true) × (list_all f ys ≡ true)
 all_left f [] ys h = (refl, h)
 all_left f (x ∷ xs) ys h =
     let parts = and_parts (f x) (list_all f (xs ++ ys)) h in
@@ -126,7 +126,7 @@ module _ (t : Types) (u : State) where
   }
 
 -- ALL AXES IN ONE LIST
-last_map : (ms : List MapShape) (o : MapShape) → output_map (ms ++ o ∷ []) ≡ Some o
+pub last_map : (ms : List MapShape) (o : MapShape) → output_map (ms ++ o ∷ []) ≡ Some o
 last_map ms o = ap (slice_get (ms ++ o ∷ [])) (let e = length-append ms (o ∷ []) in let z : length (ms ++ o ∷ []) - 1 ≡ length ms = omega (arith, e) in z) ∙ get_seam ms o [] (length ms) refl
 
 own_axes : (t : Types) (ms : List MapShape) (ins : List ValueId) (o : MapShape) (outs : ValueId) → length ms ≡ length ins →
@@ -142,7 +142,7 @@ axes_is : (t : Types) (ms : List MapShape) (ins : List ValueId) (o : MapShape) (
 axes_is t ms ins o outs l =
     (λ j. flat_map (λ (x : MapShape × ValueId). operand_axes x.0 (t (x.1).0)) (zip (ms ++ o ∷ []) ins) ++ output_axes (last_map ms o j) (t outs.0)) ∙ own_axes t ms ins o outs l
 
-extent_left : (xs ys : List Axis) (d : ℕ) (x : Extent) → extent_of xs d ≡ Some x → extent_of (xs ++ ys) d ≡ Some x
+pub extent_left : (xs ys : List Axis) (d : ℕ) (x : Extent) → extent_of xs d ≡ Some x → extent_of (xs ++ ys) d ≡ Some x
 extent_left [] ys d x h = absurd (none-some x h)
 extent_left (a ∷ xs) ys d x h = by (a.0 == d) (extent_left xs ys d x) h where
   by : (b : Bool) → (extent_of xs d ≡ Some x → extent_of (xs ++ ys) d ≡ Some x) → (if b then Some a.1 else extent_of xs d) ≡ Some x → (if b then Some a.1 else extent_of (xs ++ ys) d) ≡ Some x

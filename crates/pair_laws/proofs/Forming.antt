@@ -27,60 +27,26 @@ use Rattle.mlir_meaning.specs.Structured.{generic_box, elements, generic_element
 use Rattle.mlir_meaning.proofs.Grids.{each-append}
 use Rattle.affine_maps.specs.Permutation.{is_among}
 use Rattle.verified_runs.specs.Forms.{Structured}
-use Rattle.fuse_laws.specs.Moved.{args_of, index_step, captured_step, block, blocks, width}
-use Rattle.fuse_laws.specs.Joined.{numbered_terms, linear_step, applied, producer_index, own_index, expr_at, Joint, front, producer_to, producer_steps, consumer_base, consumer_to, consumer_steps, Fit}
-use Rattle.fuse_laws.specs.Captured.{news_of, news, named, used, in_front, IsBehind, IsNotCaptured}
+use Rattle.region_laws.specs.Moved.{args_of, index_step, linear_step, own_index, captured_step, block, blocks, width}
+use Rattle.fuse_laws.specs.Joined.{numbered_terms, applied, producer_index, expr_at, Joint, front, producer_to, producer_steps, consumer_base, consumer_to, consumer_steps, Fit}
+use Rattle.region_laws.specs.Captured.{news_of, news, named, used, in_front, IsBehind, IsNotCaptured}
 use Rattle.pair_laws.specs.Pairs.{captured_of, joint_of, raw_op, joined_rest, used_of, value_at_place, fused_op, result_in}
 use Rattle.pair_laws.specs.Laws.{FusedFits}
-use Rattle.fuse_laws.proofs.Moves.{get_left}
-use Rattle.fuse_laws.proofs.Joining.{front_at, yields, joined_fits}
-use Rattle.fuse_laws.proofs.Placing.{placed_gives}
+use Rattle.region_laws.proofs.Behind.{AreFree, blocks_free, behind_yield}
+use Rattle.fuse_laws.proofs.Joining.{joined_fits}
+use Rattle.region_laws.proofs.Placing.{placed_gives}
 
 -- NO CAPTURED VALUE BEHIND THE FRONT
-abbrev AreFree : List PayloadStep → Type 0
-AreFree = Each (λ (s : PayloadStep). IsNotCaptured s.op)
-
 applied_free : (e : Expr) (n : ℕ) → AreFree (applied e n)
 applied_free e n = each-append (λ (s : PayloadStep). IsNotCaptured s.op) (map (λ (t : ℕ × ℤ). index_step t.0) e.terms) (linear_step e.constant (numbered_terms n e.terms) ∷ []) (indexes e.terms) (tt, tt) where
   indexes : (ts : List (ℕ × ℤ)) → AreFree (map (λ (t : ℕ × ℤ). index_step t.0) ts)
   indexes [] = tt
   indexes (t ∷ ts) = (tt, indexes ts)
 
-module _ (indices : ℕ → ℕ → List PayloadStep) (free : (d n : ℕ) → AreFree (indices d n)) (to : Arg → Arg) where
-  block_free : (n : ℕ) (t : ElemTy) (op : StepOp) → AreFree (block indices to n t op)
-  block_free n t (Index d) = free d n
-  block_free n t (Captured k) = tt
-  block_free n t (Const c) = (tt, tt)
-  block_free n t (Linear c ts) = (tt, tt)
-  block_free n t (Binary op a b) = (tt, tt)
-  block_free n t (Compare c a b) = (tt, tt)
-  block_free n t (Select c a b) = (tt, tt)
-  block_free n t (SignExtend a) = (tt, tt)
-  block_free n t (ZeroExtend a) = (tt, tt)
-  block_free n t (Truncate a) = (tt, tt)
-  block_free n t (IndexCast a) = (tt, tt)
-
-  blocks_free : (n : ℕ) (ss : List PayloadStep) → AreFree (blocks indices to n ss)
-  blocks_free n [] = tt
-  blocks_free n (s ∷ ss) = each-append (λ (s : PayloadStep). IsNotCaptured s.op) (block indices to n s.ty s.op) (blocks indices to (n + width indices n s.op) ss) (block_free n s.ty s.op) (blocks_free (n + width indices n s.op) ss)
-
 rest_free : (j : Joint) (p c : PayloadShape) → AreFree (joined_rest j p c)
 rest_free j p c = each-append (λ (s : PayloadStep). IsNotCaptured s.op) (producer_steps j p c) (consumer_steps j p c)
     (blocks_free (producer_index j.exprs) (λ d n. applied_free (expr_at j.exprs d) n) (producer_to j p c) (length (front j p c)) p.steps)
     (blocks_free own_index (λ d n. (tt, tt)) (consumer_to j p c) (consumer_base j p c) c.steps)
-
--- what a payload yields isn't a captured value, since that is an `index`
-behind_yield : (c : ℕ) (ins : List ElemTy) (out : ElemTy) (rest : List PayloadStep) (w : ℕ) → out ≡ Int w → (yielded : Arg) → IsPayload (in_front c ins out rest yielded) → IsBehind c yielded
-behind_yield c ins out rest w e (Input i) h = tt
-behind_yield c ins out rest w e Out h = tt
-behind_yield c ins out rest w e (Step i) h = ⊎_elim
-    (λ t. absurd (not_index (same_Some IndexType out
-    (sym (ap (λ (o : Option PayloadStep). option_map (λ (s : PayloadStep). s.ty) o) (get_left (map captured_step (count_up 0 c)) rest i (captured_step i) (front_at c i (ltb-true i c t))))
-    ∙ yields (in_front c ins out rest (Step i)) h) ∙ e)))
-    (λ f. f) (cases_Bool (nat_lt i c))
-  where
-    not_index : IndexType ≡ Int w → ⊥
-    not_index q = cc
 
 -- the captured values that are used are such
 news_below : (c : ℕ) (args : List Arg) (seen : List ℕ) → Each (λ k. k < c) (news c seen args)

@@ -1,40 +1,29 @@
--- What the first pair is, and that none is left in the end.
-use Rattle.std.proofs.Common.{◌≡◌, ℕ, zero, suc, ◌+◌, ◌≤◌, ◌==◌, ◌&&◌, Bool, true, false, List, [], ◌∷◌, ◌++◌, length, Option, Some, None, Result, Ok, Err, ◌⊎◌, inl, inr, ⊎_elim, refl, ap, sym, subst, ◌∙◌, arith, append_assoc, length-append, eqb-true}
+-- What the first pair is.
+use Rattle.std.proofs.Common.{◌≡◌, ℕ, suc, ◌+◌, ◌==◌, ◌&&◌, Bool, true, false, List, [], ◌∷◌, ◌++◌, Option, Some, None, ◌⊎◌, inl, inr, ⊎_elim, refl, ap, sym, subst, ◌∙◌, arith, append_assoc, eqb-true}
 use Rattle.std.specs.Prelude.{slice_get, if◌then◌else◌}
 use Rattle.std.specs.Option.{option_and_then}
 use Rattle.std.proofs.lemmas.Bool.{and_parts}
 use Rattle.std.proofs.lemmas.Option.{same_Some, none-some}
-use Rattle.payload_laws.specs.Known.{may_trap}
 use Rattle.mlir_ir.specs.Count.{first, uses_op}
-use Rattle.mlir_ir.specs.Shape.{FuncShape, TensorShape}
+use Rattle.mlir_ir.specs.Shape.{FuncShape}
 use Rattle.mlir_ir.specs.declared.tree.Op.{Op}
-use Rattle.mlir_ir.specs.declared.tree.OpId.{OpId}
 use Rattle.mlir_ir.specs.declared.tree.OpKind.{OpKind, Generic}
 use Rattle.mlir_ir.specs.declared.tree.Ty.{Ty}
 use Rattle.mlir_ir.specs.declared.tree.ValueId.{ValueId}
-use Rattle.mlir_meaning.specs.Meaning.{meaning}
 use Rattle.mlir_verify.specs.Place.{Types, type_among}
-use Rattle.verified_runs.specs.Typed.{AreOf, types_of}
-use Rattle.verified_runs.specs.Passes.{Scope, BodyPasses, scope_after}
-use Rattle.verified_runs.proofs.Runs.{rest_passes}
+use Rattle.verified_runs.specs.Passes.{Scope, scope_after}
 use Rattle.verified_runs.specs.Forms.{Structured, kind_of}
-use Rattle.pair_laws.specs.FuseAll.{as_generic, produces, fits, Split, defined_as, split_by, split_at, Pair, fused_of, pair_at, pair_among, pair_of, pair_from, first_pair, fuse_pair, fuse_next, fuse_from, IsKnown, KnownNext, AllKnown}
+use Rattle.pair_laws.specs.FuseAll.{as_generic, produces, fits, Split, defined_as, split_by, split_at, Pair, fused_of, pair_at, pair_among, pair_of, pair_from, first_pair}
 use Rattle.tile_bridge.specs.Instances.{input_maps}
-use Rattle.pair_laws.specs.Pairs.{fused_op, Stands}
-use Rattle.pair_laws.specs.Laws.{FuseAllEnds, FuseAllKeepsMeaning}
-use Rattle.pair_laws.proofs.Pairing.{pair_keeps}
-use Rattle.pair_laws.proofs.Uses.{unused_front, unused_rest}
-use Rattle.mlir_verify.specs.Types.{is_typed}
-use Rattle.mlir_verify.specs.Constants.{Constants}
-use Rattle.mlir_verify.specs.Tensors.{has_elements}
-use Rattle.payload_ops.specs.Payload.{IsPayload}
+use Rattle.pair_laws.specs.Pairs.{fused_op}
+use Rattle.pair_laws.proofs.Scopes.{scope_after-append}
 
 -- OPTIONS
-some_then : {A B : Type 0} (f : A → Option B) (o : Option A) (y : B) → option_and_then f o ≡ Some y → (x : A) × (o ≡ Some x) × (f x ≡ Some y)
+pub some_then : {A B : Type 0} (f : A → Option B) (o : Option A) (y : B) → option_and_then f o ≡ Some y → (x : A) × (o ≡ Some x) × (f x ≡ Some y)
 some_then f None y h = absurd (none-some y h)
 some_then f (Some x) y h = (x, refl, h)
 
-some_if : {A : Type 0} (b : Bool) (x y : A) → (if b then Some x else None) ≡ Some y → (b ≡ true) × (x ≡ y)
+pub some_if : {A : Type 0} (b : Bool) (x y : A) → (if b then Some x else None) ≡ Some y → (b ≡ true) × (x ≡ y)
 some_if true x y h = (refl, same_Some x y h)
 some_if false x y h = absurd (none-some y h)
 
@@ -74,7 +63,7 @@ split_is v (o ∷ os) s h = by (λ t r. split_is v os t r) (defined_as v o.resul
       subst (IsSplit v (o ∷ os)) (same_Some (more o t) s k) (record { is = ap (λ l. o ∷ l) i.is; defines_it = i.defines_it })
 
 -- THE PAIR
-pub record IsFound (body : List Op) (x : Pair) : Type 0 where
+pub record IsFound (params : Scope) (body : List Op) (x : Pair) : Type 0 where
   pub is : body ≡ x.before ++ (x.producer ∷ (x.mid ++ (x.consumer ∷ x.after)))
   pub p_kind : x.producer.kind ≡ kind_of x.p
   pub c_kind : x.consumer.kind ≡ kind_of x.c
@@ -85,9 +74,13 @@ pub record IsFound (body : List Op) (x : Pair) : Type 0 where
   pub one_use : uses_op result body ≡ 1
   pub map_there : slice_get (input_maps x.c) x.k ≡ Some x.m
   pub producing : produces x.p ≡ Some x.ds
+  pub fitting : fits (type_among (scope_after params (x.before ++ (x.producer ∷ x.mid)))) x.c (fused_of x) ≡ true
 
-module _ (t : Types) (body earlier : List Op) (o : Op) (after : List Op) (whole : body ≡ earlier ++ (o ∷ after)) (c : Structured) (kind : o.kind ≡ kind_of c) where
-  at_is : (k : ℕ) (v : ValueId) → slice_get c.ins k ≡ Some v → (x : Pair) → pair_at t body earlier o after c k v ≡ Some x → IsFound body x
+module _ (params scope : Scope) (body earlier : List Op) (o : Op) (after : List Op) (whole : body ≡ earlier ++ (o ∷ after)) (reach : scope ≡ scope_after params earlier) (c : Structured) (kind : o.kind ≡ kind_of c) where
+  abbrev t : Types
+  t = type_among scope
+
+  at_is : (k : ℕ) (v : ValueId) → slice_get c.ins k ≡ Some v → (x : Pair) → pair_at t body earlier o after c k v ≡ Some x → IsFound params body x
   at_is k v operand x h =
       let a = some_then _ (split_at v earlier) x h in
       let b = some_then _ (as_generic a.0.op.kind) x a.2 in
@@ -97,7 +90,7 @@ module _ (t : Types) (body earlier : List Op) (o : Op) (after : List Op) (whole 
       (record { before = a.0.front; producer = a.0.op; mid = a.0.back; consumer = o; after = after; p = b.0; c = c; k = k; m = e.0; ds = d.0 }) x e.2 in
       let tests = and_parts (uses_op v body == 1) (fits t c (fused_op b.0 c k e.0 d.0)) f.0 in
       let s = split_is v earlier a.0 a.1 in
-      subst (IsFound body) f.1 (record {
+      subst (IsFound params body) f.1 (record {
         is = whole ∙ ap (λ l. l ++ (o ∷ after)) s.is ∙ append_assoc a.0.front (a.0.op ∷ a.0.back) (o ∷ after);
         p_kind = as_generic_is a.0.op.kind b.0 b.1;
         c_kind = kind;
@@ -108,109 +101,26 @@ module _ (t : Types) (body earlier : List Op) (o : Op) (after : List Op) (whole 
         one_use = eqb-true (uses_op v body) 1 tests.0;
         map_there = e.1;
         producing = d.1;
+        fitting = ap (λ s. fits (type_among s) c (fused_op b.0 c k e.0 d.0)) (sym (reach ∙ ap (scope_after params) s.is)) ∙ tests.1;
       })
 
-  among_is : (vs : List ValueId) (k : ℕ) → ((i : ℕ) (v : ValueId) → slice_get vs i ≡ Some v → slice_get c.ins (k + i) ≡ Some v) → (x : Pair) → pair_among t body earlier o after c k vs ≡ Some x → IsFound body x
+  among_is : (vs : List ValueId) (k : ℕ) → ((i : ℕ) (v : ValueId) → slice_get vs i ≡ Some v → slice_get c.ins (k + i) ≡ Some v) → (x : Pair) → pair_among t body earlier o after c k vs ≡ Some x → IsFound params body x
   among_is [] k at x h = absurd (none-some x h)
   among_is (v ∷ vs) k at x h = ⊎_elim
       (λ q. let z : k + 0 ≡ k = omega arith in at_is k v (ap (slice_get c.ins) (sym z) ∙ at 0 v refl) x q)
       (λ q. among_is vs (suc k) (λ i w e. let z : suc k + i ≡ k + suc i = omega arith in ap (slice_get c.ins) z ∙ at (suc i) w e) x q)
       (some_first (pair_at t body earlier o after c k v) (pair_among t body earlier o after c (suc k) vs) x h)
 
-from_is : (scope : Scope) (body os earlier : List Op) → body ≡ earlier ++ os → (x : Pair) → pair_from scope body earlier os ≡ Some x → IsFound body x
-from_is scope body [] earlier e x h = absurd (none-some x h)
-from_is scope body (o ∷ os) earlier e x h = ⊎_elim
+from_is : (params scope : Scope) (body os earlier : List Op) → body ≡ earlier ++ os → scope ≡ scope_after params earlier → (x : Pair) → pair_from scope body earlier os ≡ Some x → IsFound params body x
+from_is params scope body [] earlier e r x h = absurd (none-some x h)
+from_is params scope body (o ∷ os) earlier e r x h = ⊎_elim
     (λ q. by (as_generic o.kind) refl q)
-    (λ q. from_is (scope ++ o.results) body os (earlier ++ o ∷ []) (e ∙ sym (append_assoc earlier (o ∷ []) os)) x q)
+    (λ q. from_is params (scope ++ o.results) body os (earlier ++ o ∷ []) (e ∙ sym (append_assoc earlier (o ∷ []) os)) (ap (λ s. s ++ o.results) r ∙ sym (scope_after-append params earlier (o ∷ []))) x q)
     (some_first (pair_of (type_among scope) body earlier o os (as_generic o.kind)) (pair_from (scope ++ o.results) body (earlier ++ o ∷ []) os) x h)
   where
-    by : (g : Option Structured) → as_generic o.kind ≡ g → pair_of (type_among scope) body earlier o os g ≡ Some x → IsFound body x
+    by : (g : Option Structured) → as_generic o.kind ≡ g → pair_of (type_among scope) body earlier o os g ≡ Some x → IsFound params body x
     by None q k = absurd (none-some x k)
-    by (Some c) q k = among_is (type_among scope) body earlier o os e c (as_generic_is o.kind c q) c.ins 0 (λ i v r. let z : 0 + i ≡ i = omega arith in ap (slice_get c.ins) z ∙ r) x k
+    by (Some c) q k = among_is params scope body earlier o os e r c (as_generic_is o.kind c q) c.ins 0 (λ i v r. let z : 0 + i ≡ i = omega arith in ap (slice_get c.ins) z ∙ r) x k
 
-pub pair_found : (f : FuncShape) (x : Pair) → first_pair f ≡ Some x → IsFound f.body x
-pair_found f x h = from_is f.params f.body f.body [] refl x h
-
--- NONE IS LEFT
-fewer : (f : FuncShape) (x : Pair) → IsFound f.body x → suc (length (fuse_pair f x).body) ≡ length f.body
-fewer f x i = omega (
-  arith,
-  ap length i.is,
-  length-append x.before (x.producer ∷ (x.mid ++ (x.consumer ∷ x.after))),
-  length-append x.mid (x.consumer ∷ x.after),
-  length-append x.before (x.mid ++ (record { id = x.consumer.id; results = x.consumer.results; kind = kind_of (fused_of x) } ∷ x.after)),
-  length-append x.mid (record { id = x.consumer.id; results = x.consumer.results; kind = kind_of (fused_of x) } ∷ x.after),
-)
-
-no_pair : (f : FuncShape) → length f.body ≤ 0 → (o : Option Pair) → first_pair f ≡ o → o ≡ None
-no_pair f l None h = refl
-no_pair f l (Some x) h = absurd (let e = fewer f x (pair_found f x h) in omega (arith, e, l))
-
-abbrev answered : Result FuncShape OpId → FuncShape → FuncShape
-answered (Ok f) g = f
-answered (Err e) g = g
-
-same_ok : (f g : FuncShape) (r : Result FuncShape OpId) → r ≡ Ok f → r ≡ Ok g → f ≡ g
-same_ok f g r h k = ap (λ x. answered x f) (sym h ∙ k)
-
-ends : (n : ℕ) (f g : FuncShape) → length f.body ≤ n → fuse_from n f ≡ Ok g → first_pair g ≡ None
-ends zero f g l h = ap first_pair (sym (same_ok f g (fuse_from zero f) refl h)) ∙ no_pair f l (first_pair f) refl
-ends (suc n) f g l h = by (λ e m k. ends n e g m k) (first_pair f) refl h where
-  by : ((e : FuncShape) → length e.body ≤ n → fuse_from n e ≡ Ok g → first_pair g ≡ None) → (o : Option Pair) → first_pair f ≡ o → fuse_next (fuse_from n) f o ≡ Ok g → first_pair g ≡ None
-  by again None q k = ap first_pair (sym (same_ok f g (fuse_next (fuse_from n) f None) refl k)) ∙ q
-  by again (Some x) q k = by_trap (may_trap x.p.payload) k where
-    by_trap : (b : Bool) → (if b then Err x.producer.id else fuse_from n (fuse_pair f x)) ≡ Ok g → first_pair g ≡ None
-    by_trap true k = absurd cc
-    by_trap false k = again (fuse_pair f x) (let e = fewer f x (pair_found f x q) in omega (arith, e, l)) k
-
-pub fuse_all_ends : FuseAllEnds
-fuse_all_ends f g h = ends (length f.body) f g (omega arith) h
-
--- THE MEANING
-payload_of : (t : Types) (c : Constants) (wanted : List Ty) (rs : List (ValueId × Ty)) (g : Structured) → is_typed t c wanted rs (kind_of g) ≡ true → IsPayload g.payload
-unfolding is_typed
-payload_of t c wanted rs g h =
-    let whole = and_parts _ _ h in
-    let parts = and_parts _ _ whole.0 in
-    let payload = and_parts _ _ parts.1 in
-    let rest = and_parts (has_elements (t g.outs.0) g.payload.out) _ payload.1 in (and_parts _ _ rest.1).1
-
-stands : (f : FuncShape) (x : Pair) → IsFound f.body x → IsKnown f x → may_trap x.p.payload ≡ false → Stands f x.before x.mid x.after x.producer x.consumer x.p x.c x.k x.m x.ds
-stands f x i known safe = record {
-  passes = known.passes;
-  body = i.is;
-  p_kind = i.p_kind;
-  c_kind = i.c_kind;
-  result = i.result;
-  ty = i.ty;
-  defines_it = i.defines_it;
-  operand = i.operand;
-  fits = payload_of (type_among (scope_after f.params x.before)) (tail.0).constants f.results x.producer.results x.p
-      (ap (λ k. is_typed (type_among (scope_after f.params x.before)) (tail.0).constants f.results x.producer.results k) (sym i.p_kind) ∙ (tail.0).typed);
-  no_trap = safe;
-  produces = known.produces;
-  pairs = known.pairs;
-  unused_before = unused_front i.result x.p x.c x.k x.m x.ds i.operand x.before x.mid x.after x.producer x.consumer i.p_kind i.c_kind one;
-  unused_after = unused_rest i.result x.p x.c x.k x.m x.ds i.operand x.before x.mid x.after x.producer x.consumer i.p_kind i.c_kind one;
-} where
-  one : uses_op i.result (x.before ++ (x.producer ∷ (x.mid ++ (x.consumer ∷ x.after)))) ≡ 1
-  one = ap (uses_op i.result) (sym i.is) ∙ i.one_use
-
-  tail : BodyPasses (scope_after f.params x.before) f.results (x.producer ∷ (x.mid ++ (x.consumer ∷ x.after)))
-  tail = rest_passes f.results x.before (x.producer ∷ (x.mid ++ (x.consumer ∷ x.after))) f.params (subst (BodyPasses f.params f.results) i.is known.passes.body)
-
-keeps : (n : ℕ) (f g : FuncShape) → AllKnown n f → fuse_from n f ≡ Ok g → (inputs : List TensorShape) → AreOf (types_of f.params) inputs → meaning g inputs ≡ meaning f inputs
-keeps zero f g known h inputs typed = ap (λ x. meaning x inputs) (sym (same_ok f g (fuse_from zero f) refl h))
-keeps (suc n) f g known h inputs typed = by (λ x w k. keeps n (fuse_pair f x) g w k inputs typed) (first_pair f) refl known h where
-  by : ((x : Pair) → AllKnown n (fuse_pair f x) → fuse_from n (fuse_pair f x) ≡ Ok g → meaning g inputs ≡ meaning (fuse_pair f x) inputs) →
-      (o : Option Pair) → first_pair f ≡ o → KnownNext (AllKnown n) f o → fuse_next (fuse_from n) f o ≡ Ok g → meaning g inputs ≡ meaning f inputs
-  by again None q w k = ap (λ x. meaning x inputs) (sym (same_ok f g (fuse_next (fuse_from n) f None) refl k))
-  by again (Some x) q w k = by_trap (may_trap x.p.payload) refl k where
-    by_trap : (b : Bool) → may_trap x.p.payload ≡ b → (if b then Err x.producer.id else fuse_from n (fuse_pair f x)) ≡ Ok g → meaning g inputs ≡ meaning f inputs
-    by_trap true s k = absurd cc
-    by_trap false s k =
-        again x w.1 k
-        ∙ pair_keeps f x.before x.mid x.after x.producer x.consumer x.p x.c x.k x.m x.ds (stands f x (pair_found f x q) w.0 s) inputs typed
-
-pub fuse_all_keeps : FuseAllKeepsMeaning
-fuse_all_keeps f g known h inputs typed = keeps (length f.body) f g known h inputs typed
+pub pair_found : (f : FuncShape) (x : Pair) → first_pair f ≡ Some x → IsFound f.params f.body x
+pair_found f x h = from_is f.params f.params f.body f.body [] refl refl x h

@@ -1,15 +1,15 @@
 -- The pair of a producer and its consumer as one operation.
-use Rattle.std.proofs.Common.{◌≡◌, ◌≢◌, ℕ, zero, suc, ◌<◌, ◌==◌, ◌||◌, Bool, true, false, List, [], ◌∷◌, ◌++◌, map, length, Option, Some, None, ⊎_elim, refl, ap, sym, subst, ◌∙◌, arith, append_assoc, eq-eqb}
-use Rattle.std.specs.Prelude.{not, is_some, option_map, slice_get, if◌then◌else◌}
+use Rattle.std.proofs.Common.{◌≡◌, ◌≢◌, ℕ, zero, suc, ◌<◌, true, false, List, [], ◌∷◌, ◌++◌, map, length, Option, Some, ⊎_elim, refl, ap, sym, subst, ◌∙◌, arith, append_assoc, eq-eqb}
+use Rattle.std.specs.Prelude.{not, is_some, option_map, slice_get}
 use Rattle.std.specs.List.{list_all}
-use Rattle.std.proofs.lemmas.Bool.{and_parts, true≢false}
+use Rattle.std.proofs.lemmas.Bool.{true≢false}
 use Rattle.std.proofs.lemmas.List.{length-map, map-append}
 use Rattle.std.proofs.lemmas.Option.{slice_get_within, slice_get-map}
 use Rattle.affine_maps.specs.Compose.{composed}
 use Rattle.affine_maps.specs.Shape.{MapShape}
 use Rattle.payload_laws.specs.Laws.{NeverTraps}
 use Rattle.payload_laws.proofs.Traps.{never_traps}
-use Rattle.mlir_ir.specs.Count.{first, operands}
+use Rattle.mlir_ir.specs.Count.{operands}
 use Rattle.mlir_ir.specs.Shape.{FuncShape, TensorShape}
 use Rattle.mlir_ir.specs.declared.tree.Op.{Op}
 use Rattle.mlir_ir.specs.declared.tree.Ty.{Ty}
@@ -49,15 +49,16 @@ use Rattle.mlir_meaning.proofs.Removed.{in_place, removal}
 use Rattle.pair_laws.proofs.Forming.{fused_same}
 use Rattle.mlir_meaning.proofs.Held.{Untouched}
 use Rattle.pair_laws.proofs.Held.{still_holds}
+use Rattle.pair_laws.proofs.Names.{among_more, each_known, untouched}
 use Rattle.tile_bridge.specs.Instances.{input_maps}
 
 -- SPLICED LISTS
-spliced-map : {A B : Type 0} (f : A → B) (k : ℕ) (ys xs : List A) → map f (spliced k ys xs) ≡ spliced k (map f ys) (map f xs)
+pub spliced-map : {A B : Type 0} (f : A → B) (k : ℕ) (ys xs : List A) → map f (spliced k ys xs) ≡ spliced k (map f ys) (map f xs)
 spliced-map f k ys [] = refl
 spliced-map f zero ys (x ∷ xs) = map-append f ys xs
 spliced-map f (suc k) ys (x ∷ xs) = ap (λ l. f x ∷ l) (spliced-map f k ys xs)
 
-spliced-append : {A : Type 0} (k : ℕ) (ys xs zs : List A) → k < length xs → spliced k ys (xs ++ zs) ≡ spliced k ys xs ++ zs
+pub spliced-append : {A : Type 0} (k : ℕ) (ys xs zs : List A) → k < length xs → spliced k ys (xs ++ zs) ≡ spliced k ys xs ++ zs
 spliced-append k ys [] zs l = absurd (omega arith)
 spliced-append zero ys (x ∷ xs) zs l = sym (append_assoc ys xs zs)
 spliced-append (suc k) ys (x ∷ xs) zs l = ap (λ l. x ∷ l) (spliced-append k ys xs zs (omega arith))
@@ -90,36 +91,7 @@ gives_some g typed order never =
     never _ (sym (one_point g.ds g.box step g.out t.point order inside) ∙ t.missing)))
     (view g.out.extents h)
 
--- SCOPES
-among_typed : (ds : Scope) (v : ℕ) → is_some (type_among ds v) ≡ true → is_among v (numbers ds) ≡ true
-among_typed [] v h = absurd cc
-among_typed (d ∷ ds) v h = by ((d.0).0 == v) (type_among ds v) h (among_typed ds v) where
-  by : (b : Bool) (o : Option Ty) → is_some (first o (if b then Some d.1 else None)) ≡ true → (is_some o ≡ true → is_among v (numbers ds) ≡ true) → (b || is_among v (numbers ds)) ≡ true
-  by true o h k = refl
-  by false None h k = absurd cc
-  by false (Some t) h k = k refl
-
-among_more : (xs ys : Scope) (v : ℕ) → is_among v (numbers xs) ≡ true → is_among v (numbers (xs ++ ys)) ≡ true
-among_more [] ys v h = absurd cc
-among_more (x ∷ xs) ys v h = by ((x.0).0 == v) (among_more xs ys v) h where
-  by : (b : Bool) → (is_among v (numbers xs) ≡ true → is_among v (numbers (xs ++ ys)) ≡ true) → (b || is_among v (numbers xs)) ≡ true → (b || is_among v (numbers (xs ++ ys))) ≡ true
-  by true k h = refl
-  by false k h = k h
-
-each_known : (scope : Scope) (vs : List ValueId) → list_all (λ (v : ValueId). is_some (type_among scope v.0)) vs ≡ true → Each (λ (v : ValueId). is_among v.0 (numbers scope) ≡ true) vs
-each_known scope [] h = tt
-each_known scope (v ∷ vs) h =
-    let both = and_parts (is_some (type_among scope v.0)) (list_all (λ (v : ValueId). is_some (type_among scope v.0)) vs) h in
-    (among_typed scope v.0 both.0, each_known scope vs both.1)
-
-new_apart : (scope rs : Scope) (v : ℕ) → is_among v (numbers scope) ≡ true → Each (λ (r : ValueId × Ty). is_among (r.0).0 (numbers scope) ≡ false) rs → DoesNotName v (names_of rs)
-new_apart scope [] v h k = tt
-new_apart scope (r ∷ rs) v h k = (λ e. true≢false (sym h ∙ ap (λ n. is_among n (numbers scope)) e ∙ k.0), new_apart scope rs v h k.1)
-
-untouched : (wanted : List Ty) (mid rest : List Op) (scope : Scope) (v : ℕ) → BodyPasses scope wanted (mid ++ rest) → is_among v (numbers scope) ≡ true → Each (λ (o : Op). DoesNotName v (names_of o.results)) mid
-untouched wanted [] rest scope v h k = tt
-untouched wanted (o ∷ mid) rest scope v h k = (new_apart scope o.results v k (h.0).news, untouched wanted mid rest (scope ++ o.results) v h.2 (among_more scope o.results v k))
-
+-- RUNS
 goes_through : (x : Outcome) (k : State → Outcome) (u : State) → then_goes x k ≡ Goes u → (s : State) × (x ≡ Goes s) × (k s ≡ Goes u)
 goes_through (Goes s) k u h = (s, refl, h)
 goes_through (Ends ds) k u h = absurd cc

@@ -1,7 +1,8 @@
 -- Which pair of generics is fused next, and the function in which none is left.
-use Rattle.std.specs.Prelude.{ℕ, zero, suc, ◌==◌, Bool, true, false, not, ◌&&◌, nat_le, List, [], ◌∷◌, ◌++◌, length, slice_get, Option, Some, None, option_map, Result, Ok, Err, if◌then◌else◌, ⊤}
+use Rattle.std.specs.Prelude.{ℕ, zero, suc, ◌==◌, Bool, true, false, not, ◌&&◌, nat_le, List, [], ◌∷◌, ◌++◌, length, slice_get, Option, Some, None, option_map, Result, Ok, Err, if◌then◌else◌}
 use Rattle.std.specs.List.{list_all}
 use Rattle.std.specs.Option.{option_and_then}
+use Rattle.affine_maps.specs.Map.{map_fits}
 use Rattle.affine_maps.specs.Shape.{MapShape}
 use Rattle.payload_laws.specs.Known.{may_trap}
 use Rattle.payload_ops.specs.Shape.{PayloadShape}
@@ -15,17 +16,15 @@ use Rattle.mlir_ir.specs.declared.tree.OpId.{OpId}
 use Rattle.mlir_ir.specs.declared.tree.OpKind.{OpKind, Generic}
 use Rattle.mlir_ir.specs.declared.tree.Ty.{Ty}
 use Rattle.mlir_ir.specs.declared.tree.ValueId.{ValueId}
-use Rattle.mlir_meaning.specs.States.{State}
 use Rattle.mlir_verify.specs.Place.{Types, type_among}
 use Rattle.mlir_verify.specs.Maps.{output_map, output_dimensions, axes, breaks_maps}
 use Rattle.mlir_verify.specs.Extents.{axes_agree}
-use Rattle.verified_runs.specs.Typed.{AreTyped}
-use Rattle.verified_runs.specs.Passes.{Scope, FuncPasses, scope_after}
+use Rattle.verified_runs.specs.Passes.{Scope}
 use Rattle.verified_runs.specs.Forms.{Structured, kind_of}
 use Rattle.point_laws.specs.Orders.{is_order}
-use Rattle.fuse_laws.specs.Moved.{args_of}
+use Rattle.region_laws.specs.Moved.{args_of}
 use Rattle.tile_bridge.specs.Instances.{input_maps, is_parallel}
-use Rattle.pair_laws.specs.Pairs.{fused_op, fused_func, Produces, Pairs}
+use Rattle.pair_laws.specs.Pairs.{fused_op, fused_func}
 
 -- an operation as a generic, if it is one
 abbrev pub as_generic : OpKind → Option Structured
@@ -132,32 +131,27 @@ first_pair f = pair_from f.params f.body [] f.body
 abbrev pub fuse_pair : FuncShape → Pair → FuncShape
 fuse_pair f x = fused_func f x.before x.mid x.after x.consumer (fused_of x)
 
--- UNTIL NONE IS LEFT; or the producer that may trap
-abbrev pub fuse_next : (FuncShape → Result FuncShape OpId) → FuncShape → Option Pair → Result FuncShape OpId
-fuse_next again f None = Ok f
-fuse_next again f (Some x) = if may_trap x.p.payload then Err x.producer.id else again (fuse_pair f x)
+-- UNTIL NONE IS LEFT
+-- why no function is formed: the producer of a pair may trap, or a map needs a number beyond plus and minus 2^31 (the
+-- limit on extents)
+pub data Stop : Type 0 where
+  MayTrap : OpId → Stop
+  LargeNumber : Stop
 
-abbrev pub fuse_from : ℕ → FuncShape → Result FuncShape OpId
+-- the numbers of its maps are within plus and minus 2^31
+abbrev pub has_small_maps : Structured → Bool
+has_small_maps g = list_all map_fits g.maps
+
+abbrev pub fuse_next : (FuncShape → Result FuncShape Stop) → FuncShape → Option Pair → Result FuncShape Stop
+fuse_next again f None = Ok f
+fuse_next again f (Some x) =
+    if may_trap x.p.payload then Err (MayTrap x.producer.id)
+    else (if has_small_maps (fused_of x) then again (fuse_pair f x) else Err LargeNumber)
+
+abbrev pub fuse_from : ℕ → FuncShape → Result FuncShape Stop
 fuse_from zero f = Ok f
 fuse_from (suc n) f = fuse_next (fuse_from n) f (first_pair f)
 
 -- each pair takes one operation away
-abbrev pub fuse_all : FuncShape → Result FuncShape OpId
+abbrev pub fuse_all : FuncShape → Result FuncShape Stop
 fuse_all f = fuse_from (length f.body) f
-
--- what is known of a function and its first pair: the function passes the verifier, and typed states are what they
--- should be
-pub record IsKnown (f : FuncShape) (x : Pair) : Type 0 where
-  pub passes : FuncPasses f
-  pub produces : (u : State) → AreTyped (type_among (scope_after f.params x.before)) u → Produces x.p x.ds u
-  pub pairs : (u : State) → AreTyped (type_among (scope_after f.params (x.before ++ (x.producer ∷ x.mid)))) u →
-      Pairs x.p x.c x.k x.m x.ds u
-
-abbrev pub KnownNext : (FuncShape → Type 0) → FuncShape → Option Pair → Type 0
-KnownNext again f None = ⊤
-KnownNext again f (Some x) = IsKnown f x × again (fuse_pair f x)
-
--- so it is of each function on the way
-abbrev pub AllKnown : ℕ → FuncShape → Type 0
-AllKnown zero f = ⊤
-AllKnown (suc n) f = KnownNext (AllKnown n) f (first_pair f)

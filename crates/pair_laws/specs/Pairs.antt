@@ -24,7 +24,7 @@ use Rattle.verified_runs.specs.Forms.{Structured, kind_of}
 use Rattle.point_laws.specs.Orders.{is_order}
 use Rattle.region_laws.specs.Operands.{maps_of}
 use Rattle.fuse_laws.specs.Joined.{spliced, Joint, producer_steps, consumer_steps, joined}
-use Rattle.fuse_laws.specs.Captured.{used, placed}
+use Rattle.region_laws.specs.Captured.{used, placed}
 use Rattle.payload_ops.specs.Shape.{PayloadShape}
 use Rattle.mlir_base.specs.declared.types.ElemTy.TheVariants.{Int}
 use Rattle.payload_ops.specs.declared.step.PayloadStep.{PayloadStep}

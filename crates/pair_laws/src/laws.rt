@@ -1,4 +1,4 @@
-ghost use Rattle.pair_laws.specs.Laws.{AllCapturedMeet, FusedFits, InstancesProduce, PairKeepsMeaning, FuseAllEnds, FuseAllKeepsMeaning, FitsKeepsBox};
+ghost use Rattle.pair_laws.specs.Laws.{AllCapturedMeet, FusedFits, InstancesProduce, PairKeepsMeaning, FirstPairStands, FirstPairKeepsMeaning, FusedPairPasses, FuseAllEnds, FuseAllPasses, FuseAllKeepsMeaning, FitsKeepsBox};
 
 // The functions here have no code: their contracts are the laws, over the definitions in `specs/`.
 
@@ -16,9 +16,19 @@ pub fn pairs_are_fused()
     ensures { PairKeepsMeaning }
 {}
 
-/// Fusing pairs until none is left ends, and keeps the meaning of the function. The test on types keeps the box.
+/// In a function that passes the verifier the first pair is such a pair: fused, it gives a function that means the
+/// same, and that passes where its maps are maps.
+pub fn first_pairs_are_fused()
+    ensures stands { FirstPairStands }
+    ensures keeps { FirstPairKeepsMeaning }
+    ensures passes { FusedPairPasses }
+{}
+
+/// Fusing pairs until none is left ends; where it gives a function, that passes the verifier and means the same as
+/// the one that passed before. The test on types keeps the box.
 pub fn all_pairs_are_fused()
     ensures box_of { FitsKeepsBox }
     ensures ends { FuseAllEnds }
+    ensures passes { FuseAllPasses }
     ensures keeps { FuseAllKeepsMeaning }
 {}

@@ -9,4 +9,6 @@
 
 mod laws;
 
-pub use laws::{all_pairs_are_fused, fused_operations_are_formed, pairs_are_fused};
+pub use laws::{
+    all_pairs_are_fused, first_pairs_are_fused, fused_operations_are_formed, pairs_are_fused,
+};

@@ -1,5 +1,5 @@
 -- The points of a box among those of a box that holds it, and folds of which the other points change nothing.
-use Rattle.std.proofs.Common.{◌≡◌, ℕ, suc, ◌+◌, nat_lt, Bool, true, false, ◌&&◌, cond, List, [], ◌∷◌, map, fold, filter, length, Option, Some, None, ⊎_elim, refl, ap, sym, ◌∙◌, arith, zero, ◌-◌, ◌<◌, ◌≤◌, get_or}
+use Rattle.std.proofs.Common.{◌≡◌, ℕ, suc, ◌+◌, nat_lt, Bool, true, false, ◌&&◌, cond, List, [], ◌∷◌, map, fold, filter, length, Option, Some, None, ⊎_elim, refl, ap, sym, ◌∙◌, arith, zero, ◌<◌, ◌≤◌, get_or}
 use Rattle.std.specs.Prelude.{option_and_then}
 use Rattle.std.proofs.lemmas.Bool.{lt-ltb, true≢false, cases_lt}
 use Rattle.std.proofs.lemmas.List.Folds.{fold_stays}

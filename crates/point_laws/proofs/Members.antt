@@ -1,5 +1,5 @@
 -- Members of lists, and when lists are permutations of one another.
-use Rattle.std.proofs.Common.{◌≡◌, ℕ, ◌+◌, Bool, true, false, cond, List, [], ◌∷◌, ◌++◌, map, filter, ◌⊎◌, inl, inr, ⊎_elim, IsPermutation, refl, ap, sym, subst, ◌∙◌}
+use Rattle.std.proofs.Common.{◌≡◌, Bool, true, false, cond, List, [], ◌∷◌, ◌++◌, map, filter, ◌⊎◌, inl, inr, ⊎_elim, IsPermutation, refl, ap, sym, subst, ◌∙◌}
 use Rattle.std.specs.Prelude.{⊤}
 use Rattle.std.proofs.lemmas.List.Sorted.{IsPermutation-refl, IsPermutation-cons, IsPermutation-middle, IsPermutation-trans}
 use Rattle.mlir_meaning.specs.Grids.{Each}

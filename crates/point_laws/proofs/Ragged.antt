@@ -18,7 +18,7 @@ pub tile_begins : (extent t k : ℕ) → 0 < t → k < tile_count extent t → k
 tile_begins extent t k h l = omega (arith, mul_comm (tile_count extent t) t, mul-le-mul_right {m = k + 1} {n = tile_count extent t} t (omega arith), add-mul k 1 t)
 
 -- a coordinate lies in tile k where k is its quotient
-tile_tested : (e t k i : ℕ) → 0 < t → i < e → k * t < e → tested (k * t) (min (e - k * t) t) i ≡ ((i / t) == k)
+pub tile_tested : (e t k i : ℕ) → 0 < t → i < e → k * t < e → tested (k * t) (min (e - k * t) t) i ≡ ((i / t) == k)
 tile_tested e t k i h l begins =
     let next : (k + 1) * t ≡ k * t + t = omega (arith, add-mul k 1 t) in
     ⊎_elim (λ b. tested_before (k * t) (min (e - k * t) t) i b ∙ sym (ne_eqb (i / t) k (λ x. omega (arith, (div-lt_iff_lt-mul {k = t} {x = i} {y = k} h).1 b))))
@@ -34,7 +34,7 @@ tile_tested e t k i h l begins =
     not_next : k * t + t ≤ i → i / t < k + 1 → ⊥
     not_next c b = omega (arith, (div-lt_iff_lt-mul {k = t} {x = i} {y = k + 1} h).0 b, add-mul k 1 t)
 
-whole_tested : (e i : ℕ) → i < e → tested 0 e i ≡ true
+pub whole_tested : (e i : ℕ) → i < e → tested 0 e i ≡ true
 whole_tested e i h = tested_in 0 e i (omega arith) (omega arith)
 
 -- ALL DIMENSIONS

@@ -1,5 +1,5 @@
 -- Lists as tables, and the coordinates of points of boxes.
-use Rattle.std.proofs.Common.{◌≡◌, ℕ, zero, suc, ◌+◌, ◌<◌, Bool, true, List, [], ◌∷◌, map, length, get_or, ◌⊎◌, ⊎_elim, refl, ap, sym, subst, ◌∙◌, arith, zero-add, ◌-◌, pos, false, ◌==◌, ◌||◌}
+use Rattle.std.proofs.Common.{◌≡◌, ℕ, zero, suc, ◌+◌, ◌<◌, Bool, true, List, [], ◌∷◌, map, length, get_or, ⊎_elim, refl, ap, sym, subst, ◌∙◌, arith, zero-add, pos, ◌==◌, ◌||◌}
 use Rattle.std.specs.List.{list_all}
 use Rattle.std.proofs.lemmas.Bool.{and_parts, false≢true, cases_Bool, eqb-true}
 use Rattle.std.proofs.lemmas.List.{length-map, get_or-map}

@@ -36,7 +36,7 @@ use Rattle.region_laws.proofs.Leaves.{size_fixed}
 use Rattle.point_laws.proofs.Cuts.{tile_cut}
 use Rattle.region_laws.proofs.Outputs.{output_offsets, output_sizes}
 use Rattle.point_laws.proofs.Ragged.{tile_begins}
-use Rattle.region_laws.proofs.Shifts.{still_is}
+use Rattle.region_laws.proofs.Stays.{still_is}
 use Rattle.region_laws.proofs.TileLoops.{sliced_adds}
 use Rattle.region_laws.proofs.Stated.{typed_instance, does_tile, tile_for}
 use Rattle.region_laws.specs.Instances.{Instance, IsTypedInstance, result_of}
@@ -105,7 +105,7 @@ abbrev body : List Op
 body =
     (size_op 16 5 11 ∷ size_op 17 3 14 ∷ [])
     ++ (slice_ops ((v 0, Some slice_a) ∷ [])
-    ++ (slice_op (v 15) slice_out ∷ record { id = record { 0 = 20 }; results = (v 20, t5) ∷ []; kind = tiled_kind box ts ms ds its ((v 0, Some slice_a) ∷ []) (v 19) [] add }
+    ++ (slice_op (v 15) slice_out ∷ record { id = record { 0 = 20 }; results = (v 20, t5) ∷ []; kind = tiled_kind box (is_cut ts) ms ds its ((v 0, Some slice_a) ∷ []) (v 19) [] add }
     ∷ record { id = record { 0 = 21 }; results = (v 21, t5) ∷ []; kind = InsertSlice (v 20) (v 15) slice_out.offsets slice_out.sizes } ∷ yield_of (record { 0 = 22 }) (v 21) ∷ []))
 
 abbrev step : ℕ → List ℕ → Option ℕ
@@ -121,7 +121,7 @@ abbrev tile_body : TileBody
 tile_body = record {
   inputs = (v 0, Some slice_a) ∷ [];
   iterators = its;
-  kind = λ o. tiled_kind box ts ms ds its ((v 0, Some slice_a) ∷ []) o [] add;
+  kind = λ o. tiled_kind box (is_cut ts) ms ds its ((v 0, Some slice_a) ∷ []) o [] add;
   names = [];
   captured = [];
   payload = add;
@@ -182,10 +182,10 @@ module _ (k1 k2 : ℕ) (s : State) (cells : List ℕ) (b : InBox (counts (cut_di
   body_runs =
       let c = tile_cut box ts q b in
       sizes.runs _
-      ∙ does_tile sums ts q M t tile_body (record {
+      ∙ does_tile sums (is_cut ts) (tile_offsets box ts q) (tile_sizes box ts q) M t tile_body (record {
         typed = typed;
         rank = refl;
-        within = b;
+        within = c;
         body = record {
           slices = (
             refl,

@@ -34,45 +34,45 @@ use Rattle.region_laws.specs.Bodies.{Slice, slice_op, slice_ops, tiled_kind}
 use Rattle.region_laws.proofs.Foralls.{begins}
 use Rattle.region_laws.proofs.Leaves.{size_divides}
 use Rattle.point_laws.proofs.Cuts.{tile_cut}
-use Rattle.region_laws.proofs.Shifts.{still_is}
+use Rattle.region_laws.proofs.Stays.{still_is}
 use Rattle.region_laws.proofs.Stated.{typed_instance, notes_one, tile_forall_is}
 use Rattle.region_laws.specs.Instances.{Instance, IsTypedInstance, result_of}
 use Rattle.region_laws.specs.Bodies.{TileBody, Names}
 
-abbrev a : Grid
+abbrev pub a : Grid
 a = record { extents = 6 ∷ []; cells = 1 ∷ 2 ∷ 3 ∷ 4 ∷ 5 ∷ 6 ∷ [] }
 
-abbrev b : Grid
+abbrev pub b : Grid
 b = record { extents = 3 ∷ []; cells = 7 ∷ 8 ∷ 9 ∷ [] }
 
-abbrev out : Grid
+abbrev pub out : Grid
 out = record { extents = 4 ∷ []; cells = 10 ∷ 20 ∷ 30 ∷ 40 ∷ [] }
 
-abbrev v : ℕ → ValueId
+abbrev pub v : ℕ → ValueId
 v n = record { 0 = n }
 
-abbrev u : State
+abbrev pub u : State
 u = record { values = λ n. if n == 0 then Cells 32 a else if n == 1 then Cells 32 b else Cells 32 out; shared = []; inserts = [] }
 
-abbrev N : ℕ → Bool
+abbrev pub N : ℕ → Bool
 N n = nat_lt n 10
 
-abbrev box : List ℕ
+abbrev pub box : List ℕ
 box = 4 ∷ 3 ∷ []
 
-abbrev ts : List ℕ
+abbrev pub ts : List ℕ
 ts = 2 ∷ 0 ∷ []
 
-abbrev ds : List ℕ
+abbrev pub ds : List ℕ
 ds = 0 ∷ []
 
 abbrev sum : Expr
 sum = record { constant = pos 0; terms = (0, pos 1) ∷ (1, pos 1) ∷ [] }
 
-abbrev ms : List MapShape
+abbrev pub ms : List MapShape
 ms = record { dims = 2; results = sum ∷ [] } ∷ select_map 2 (1 ∷ []) ∷ []
 
-abbrev multiply_add : PayloadShape
+abbrev pub multiply_add : PayloadShape
 multiply_add = record {
   ins = Int 32 ∷ Int 32 ∷ [];
   out = Int 32;
@@ -80,53 +80,53 @@ multiply_add = record {
   yielded = Step 1;
 }
 
-abbrev its : List Iter
+abbrev pub its : List Iter
 its = Parallel ∷ Reduction ∷ []
 
-abbrev t4 : Ty
+abbrev pub t4 : Ty
 t4 = Tensor (Fixed 4 ∷ []) 32
 
 abbrev head : ForallHead
 head = record { vars = v 11 ∷ []; lower = Literal (pos 0) ∷ []; upper = Literal (pos 4) ∷ []; step = Literal (pos 2) ∷ []; shared = (v 12, t4, v 2) ∷ [] }
 
-abbrev slice_a : Slice
+abbrev pub slice_a : Slice
 slice_a = record { id = record { 0 = 18 }; result = v 18; ty = t4; offsets = Value (v 11) ∷ []; sizes = Literal (pos 4) ∷ [] }
 
-abbrev slice_out : Slice
+abbrev pub slice_out : Slice
 slice_out = record { id = record { 0 = 19 }; result = v 19; ty = t4; offsets = Value (v 11) ∷ []; sizes = Literal (pos 2) ∷ [] }
 
-abbrev inputs : List (ValueId × Option Slice)
+abbrev pub inputs : List (ValueId × Option Slice)
 inputs = (v 0, Some slice_a) ∷ (v 1, None) ∷ []
 
 abbrev body : List Op
 body =
     slice_ops inputs
-    ++ (slice_op (v 12) slice_out ∷ record { id = record { 0 = 20 }; results = (v 20, t4) ∷ []; kind = tiled_kind box ts ms ds its inputs (v 19) [] multiply_add }
+    ++ (slice_op (v 12) slice_out ∷ record { id = record { 0 = 20 }; results = (v 20, t4) ∷ []; kind = tiled_kind box (is_cut ts) ms ds its inputs (v 19) [] multiply_add }
     ∷ record { id = record { 0 = 21 }; results = []; kind = ParallelInsert (v 20) (v 12) slice_out.offsets slice_out.sizes } ∷ [])
 
-abbrev step : ℕ → List ℕ → Option ℕ
+abbrev pub step : ℕ → List ℕ → Option ℕ
 step = generic_step (maps_of ms box ds) (Cells 32 a ∷ Cells 32 b ∷ []) [] multiply_add
 
 lt : (m n : ℕ) → m < m + (n + 1)
 lt m n = omega arith
 
-abbrev window : Instance
+abbrev pub window : Instance
 window = record { box = box; maps = ms; ds = ds; ins = Cells 32 a ∷ Cells 32 b ∷ []; width = 32; out = out; captured = []; payload = multiply_add }
 
-abbrev tile_body : TileBody
+abbrev pub tile_body : TileBody
 tile_body = record {
   inputs = inputs;
   iterators = its;
-  kind = λ o. tiled_kind box ts ms ds its inputs o [] multiply_add;
+  kind = λ o. tiled_kind box (is_cut ts) ms ds its inputs o [] multiply_add;
   names = [];
   captured = [];
   payload = multiply_add;
 }
 
-abbrev made_names : Names
+abbrev pub made_names : Names
 made_names = record { id = record { 0 = 20 }; result = v 20; ty = t4; insertion = record { 0 = 21 }; inserted = v 20; inserted_ty = t4; end = record { 0 = 21 } }
 
-typed : IsTypedInstance window
+pub typed : IsTypedInstance window
 typed = typed_instance window (record {
   inputs = ((((refl, ((refl, lt 0 1), ((refl, lt 1 0), tt))), tt), (inl (lt 5 0), tt)), ((((refl, ((refl, lt 1 0), tt)), tt), ((lt 1 0, refl), tt)), tt));
   selects = (lt 0 1, tt);
@@ -139,7 +139,7 @@ typed = typed_instance window (record {
     alone (suc zero) l = tt
     alone (suc (suc d)) l = absurd (omega arith)
 
-cuts : CutsOutput (is_cut ts) box ds
+pub cuts : CutsOutput (is_cut ts) box ds
 cuts zero l h = refl
 cuts (suc zero) l h = absurd (false≢true h)
 cuts (suc (suc d)) l h = absurd (omega arith)
@@ -148,7 +148,7 @@ loop : TileLoop (cut_dims box ts) u head
 loop = record { lower = refl; upper = refl; step = refl }
 
 -- what is known in the body
-abbrev M : ℕ → Bool
+abbrev pub M : ℕ → Bool
 M n = nat_lt n 13
 
 notes : (q : List ℕ) → InBox (counts (cut_dims box ts)) q → insertions_of (run body (forall_state u head q)) ≡ noted (picks ds (tile_offsets box ts q)) (started_tile step box ts ds out q)
@@ -159,10 +159,10 @@ notes (k ∷ []) h =
     let begin : Begins N u (cut_dims box ts) (v 11 ∷ []) (v 12) (Cells 32 out) (k ∷ []) s = begins N u (cut_dims box ts) (v 11 ∷ []) head.lower head.upper head.step (v 12) (v 2) t4 (k ∷ []) loop refl (refl, tt) in
     let two : min (4 - k * 2) 2 ≡ 2 = size_divides 2 2 k (omega arith) h.0 in
     let at_offset : k * 2 ≡ 0 + (1 * (k * 2) + (1 * 0 + 0)) = omega arith in
-    notes_one window ts (k ∷ []) M s tile_body (record {
+    notes_one window (is_cut ts) (tile_offsets box ts (k ∷ [])) (tile_sizes box ts (k ∷ [])) M s tile_body (record {
       typed = typed;
       rank = refl;
-      within = h;
+      within = tile_cut box ts (k ∷ []) h;
       body = record {
         slices = (
           refl,

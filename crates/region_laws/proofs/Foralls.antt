@@ -1,6 +1,8 @@
 -- A `scf.forall` over tiles: every tile from the shared output's start, and then the insertions in turn.
-use Rattle.std.proofs.Common.{◌≡◌, ℕ, ◌+◌, ◌-◌, ◌*◌, ◌/◌, ◌==◌, ◌||◌, pos, ◌-ℤ◌, Bool, true, List, [], ◌∷◌, map, fold, Option, Some, None, refl, ap, sym, ◌∙◌, add-zero, zero-add}
-use Rattle.std.specs.Prelude.{Result, Ok, Err, option_map, option_and_then}
+use Rattle.std.proofs.Common.{◌≡◌, ℕ, zero, suc, ◌+◌, ◌-◌, ◌*◌, ◌/◌, ◌==◌, ◌||◌, pos, ◌-ℤ◌, Bool, true, List, [], ◌∷◌, map, fold, Option, Some, None, refl, ap, sym, ◌∙◌, add-zero, zero-add}
+use Rattle.std.specs.Prelude.{Result, Ok, Err, option_map, option_and_then, slice_get}
+use Rattle.std.proofs.lemmas.Option.{same_Some}
+use Rattle.payload_laws.proofs.Fitted.{slice_get-none}
 use Rattle.std.proofs.lemmas.Bool.{eq-eqb}
 use Rattle.std.proofs.lemmas.List.Folds.{fold_stays}
 use Rattle.mlir_ir.specs.declared.tree.Ty.{Ty}
@@ -10,15 +12,15 @@ use Rattle.mlir_meaning.specs.Grids.{points, InBox}
 use Rattle.mlir_meaning.specs.Loops.{ForallHead, trip_counts, numbers_at, forall_box, forall_state, insertions_of, gathered, result_append, inserted, inserted_data, forall_meaning}
 use Rattle.mlir_meaning.specs.Moves.{insert_into}
 use Rattle.mlir_meaning.specs.Points.{to_nat}
-use Rattle.mlir_meaning.specs.States.{State, Outcome, Fails, made, defines, then_made, set, set_all, indices_in}
+use Rattle.mlir_meaning.specs.States.{State, Outcome, made, defines, then_made, set, set_all, indices_in}
 use Rattle.mlir_meaning.specs.declared.answer.Fault.{Fault}
-use Rattle.mlir_meaning.specs.declared.answer.Fault.TheVariants.{Division}
 use Rattle.mlir_meaning.specs.declared.values.Grid.{Grid}
 use Rattle.mlir_meaning.specs.declared.values.Insertion.{Insertion}
 use Rattle.mlir_meaning.specs.declared.values.Datum.{Datum}
 use Rattle.mlir_meaning.specs.declared.values.Datum.TheVariants.{Number, Cells}
 use Rattle.mlir_meaning.proofs.Grids.{each_point, each_more, map_same}
 use Rattle.point_laws.specs.Tiles.{counts}
+use Rattle.region_laws.specs.Among.{then_grid}
 use Rattle.region_laws.specs.Regions.{in_turn}
 use Rattle.region_laws.specs.Laws.{ForallBegins}
 use Rattle.region_laws.specs.Nests.{numbers_of, with_value, AreNewVars, VarsAt, noted, TileLoop}
@@ -43,16 +45,24 @@ module _ (ds : List (ℕ × ℕ)) (s : State) (h : ForallHead) (loop : TileLoop 
   forall_numbers_are q = (λ j. numbers_at (loop.lower j) (loop.step j) q) ∙ numbers_are ds q
 
 -- values that are defined together
-set_all_keeps : (N : ℕ → Bool) (vs : List ValueId) (xs : List Datum) (e : ℕ → Datum) (w : ℕ) → AreNewVars N vs → N w ≡ true → set_all e vs xs w ≡ e w
+pub set_all_keeps : (N : ℕ → Bool) (vs : List ValueId) (xs : List Datum) (e : ℕ → Datum) (w : ℕ) → AreNewVars N vs → N w ≡ true → set_all e vs xs w ≡ e w
 set_all_keeps N [] xs e w new is = refl
 set_all_keeps N (v ∷ vs) [] e w new is = refl
 set_all_keeps N (v ∷ vs) (x ∷ xs) e w new is =
     set_all_keeps (with_value N v) vs xs (set e v.0 x) w new.1 (or_right (w == v.0) (N w) is) ∙ set_other e v.0 w x (apart N v.0 w new.0 is)
 
-with_self : (N : ℕ → Bool) (v : ValueId) → with_value N v v.0 ≡ true
+pub with_self : (N : ℕ → Bool) (v : ValueId) → with_value N v v.0 ≡ true
 with_self N v = λ j. eq-eqb v.0 v.0 refl j || N v.0
 
-vars_are : (N : ℕ → Bool) (ds : List (ℕ × ℕ)) (vs : List ValueId) (q : List ℕ) (s : State) (e : ℕ → Datum) → AreNewVars N vs → s.values ≡ set_all e vs (numbers_of ds q) → VarsAt ds vs q s
+-- values that are set together, under names that are other than each other
+pub set_all_at : (N : ℕ → Bool) (vs : List ValueId) (ds : List Datum) (e : ℕ → Datum) (k : ℕ) (v : ValueId) (d : Datum) → AreNewVars N vs → slice_get vs k ≡ Some v → slice_get ds k ≡ Some d → set_all e vs ds v.0 ≡ d
+set_all_at N [] ds e k v d new h g = absurd (slice_get-none k v h)
+set_all_at N (w ∷ vs) [] e k v d new h g = absurd (slice_get-none k d g)
+set_all_at N (w ∷ vs) (x ∷ ds) e zero v d new h g =
+    (λ j. set_all (set e w.0 x) vs ds (sym (same_Some w v h) j).0) ∙ set_all_keeps (with_value N w) vs ds (set e w.0 x) w.0 new.1 (with_self N w) ∙ set_same e w.0 x ∙ same_Some x d g
+set_all_at N (w ∷ vs) (x ∷ ds) e (suc k) v d new h g = set_all_at (with_value N w) vs ds (set e w.0 x) k v d new.1 h g
+
+pub vars_are : (N : ℕ → Bool) (ds : List (ℕ × ℕ)) (vs : List ValueId) (q : List ℕ) (s : State) (e : ℕ → Datum) → AreNewVars N vs → s.values ≡ set_all e vs (numbers_of ds q) → VarsAt ds vs q s
 vars_are N [] vs q s e new same = tt
 vars_are N (d ∷ ds) [] q s e new same = tt
 vars_are N (d ∷ ds) (v ∷ vs) [] s e new same = tt
@@ -76,11 +86,6 @@ begins N u ds vs lower upper step arg outs ty q loop new_arg new =
     }
 
 -- THE INSERTIONS
--- what follows a tensor that may trap
-abbrev pub then_grid : Option Grid → (Grid → Outcome) → Outcome
-then_grid None rest = Fails Division
-then_grid (Some g) rest = rest g
-
 module _ {Q : Type 0} (tile : Q → Option Grid) (off : Q → List ℕ) (rest : Grid → Outcome) where
   abbrev insert_tile : Q → Grid → Option Grid
   insert_tile q g = option_map (λ t. insert_into t (off q) g) (tile q)

@@ -2,7 +2,7 @@
 use Rattle.std.proofs.Common.{◌≡◌, ℕ, Bool, true, false, List, [], ◌∷◌, Option, if◌then◌else◌, refl, ap, sym, ◌∙◌, zero, suc, ◌+◌, ◌++◌, map, length, get_or, arith}
 use Rattle.affine_maps.specs.Shape.{MapShape}
 use Rattle.mlir_ir.specs.declared.tree.Iter.TheVariants.{Parallel, Reduction}
-use Rattle.mlir_ir.specs.declared.tree.OpKind.{Generic, Matmul}
+use Rattle.mlir_ir.specs.declared.tree.OpKind.{Generic}
 use Rattle.mlir_ir.specs.declared.tree.ValueId.{ValueId}
 use Rattle.mlir_meaning.specs.Meaning.{kind_meaning, values_in}
 use Rattle.mlir_meaning.specs.Moves.{slice_of}
@@ -12,9 +12,8 @@ use Rattle.mlir_meaning.specs.Structured.{matmul_form, multiply_add, generic_of,
 use Rattle.mlir_meaning.specs.declared.values.Datum.{Datum}
 use Rattle.mlir_meaning.specs.declared.values.Datum.TheVariants.{Number, Bits, Cells}
 use Rattle.mlir_meaning.proofs.Named.{matmul_is, batch_matmul_is, fill_is, transpose_is, broadcast_is}
-use Rattle.point_laws.specs.Tiles.{tile_offsets, tile_sizes, is_cut}
 use Rattle.region_laws.specs.Operands.{is_sliced, offsets_of, sizes_of, operand_tile, inner_map}
-use Rattle.region_laws.specs.Bodies.{Slice, slice_names, MeansTiled}
+use Rattle.region_laws.specs.Bodies.{Slice, slice_names}
 use Rattle.region_laws.proofs.Outputs.{inner_selected}
 use Rattle.std.specs.Prelude.{replicate}
 use Rattle.std.proofs.lemmas.List.{map-append, length-map}
@@ -43,10 +42,9 @@ tile_width cut os ns m (Cells width g) = by (is_sliced cut m.results)
 -- THE TILES OF PRODUCTS
 pub matmul_means : MatmulTileIsMatmul
 unfolding matmul_form
-matmul_means box ts q x y width va vb fs names rank u rs outs g tiled at_out shape =
-    let cut : ℕ → Bool = is_cut ts in
-    let first : u.values va.0 ≡ operand_tile cut (tile_offsets box ts q) (tile_sizes box ts q) (select_map 3 (0 ∷ 2 ∷ [])) x = ap first_of ((λ j. values_in u.values (sym names j)) ∙ tiled) in
-    let narrow : width_of (u.values va.0) ≡ width_of x = ap width_of first ∙ tile_width cut (tile_offsets box ts q) (tile_sizes box ts q) (select_map 3 (0 ∷ 2 ∷ [])) x in
+matmul_means box cut os ns x y width va vb fs names rank u rs outs g tiled at_out shape =
+    let first : u.values va.0 ≡ operand_tile cut os ns (select_map 3 (0 ∷ 2 ∷ [])) x = ap first_of ((λ j. values_in u.values (sym names j)) ∙ tiled) in
+    let narrow : width_of (u.values va.0) ≡ width_of x = ap width_of first ∙ tile_width cut os ns (select_map 3 (0 ∷ 2 ∷ [])) x in
     matmul_is va vb outs rs u
     ∙ (λ j. kind_meaning (generic_of (matmul_form (narrow j) (width_of (at_out j))) (va ∷ vb ∷ []) outs) rs u)
     ∙ (λ j. kind_meaning (Generic (sym (inner_selected cut 3 (0 ∷ 2 ∷ [])) j ∷ sym (inner_selected cut 3 (2 ∷ 1 ∷ [])) j ∷ select_map (sym rank j) (0 ∷ 1 ∷ []) ∷ []) (Parallel ∷ Parallel ∷ Reduction ∷ []) (sym names j) outs []
@@ -54,10 +52,9 @@ matmul_means box ts q x y width va vb fs names rank u rs outs g tiled at_out sha
 
 pub batch_matmul_means : BatchMatmulTileIsBatchMatmul
 unfolding batch_matmul_form
-batch_matmul_means box ts q x y width va vb fs names rank u rs outs g tiled at_out shape =
-    let cut : ℕ → Bool = is_cut ts in
-    let first : u.values va.0 ≡ operand_tile cut (tile_offsets box ts q) (tile_sizes box ts q) (select_map 4 (0 ∷ 1 ∷ 3 ∷ [])) x = ap first_of ((λ j. values_in u.values (sym names j)) ∙ tiled) in
-    let narrow : width_of (u.values va.0) ≡ width_of x = ap width_of first ∙ tile_width cut (tile_offsets box ts q) (tile_sizes box ts q) (select_map 4 (0 ∷ 1 ∷ 3 ∷ [])) x in
+batch_matmul_means box cut os ns x y width va vb fs names rank u rs outs g tiled at_out shape =
+    let first : u.values va.0 ≡ operand_tile cut os ns (select_map 4 (0 ∷ 1 ∷ 3 ∷ [])) x = ap first_of ((λ j. values_in u.values (sym names j)) ∙ tiled) in
+    let narrow : width_of (u.values va.0) ≡ width_of x = ap width_of first ∙ tile_width cut os ns (select_map 4 (0 ∷ 1 ∷ 3 ∷ [])) x in
     batch_matmul_is va vb outs rs u
     ∙ (λ j. kind_meaning (generic_of (batch_matmul_form (narrow j) (width_of (at_out j))) (va ∷ vb ∷ []) outs) rs u)
     ∙ (λ j. kind_meaning (Generic (sym (inner_selected cut 4 (0 ∷ 1 ∷ 3 ∷ [])) j ∷ sym (inner_selected cut 4 (0 ∷ 3 ∷ 2 ∷ [])) j ∷ select_map (sym rank j) (0 ∷ 1 ∷ 2 ∷ []) ∷ [])
@@ -90,27 +87,27 @@ copied n cut ds v fs outs width rs u names = λ j.
 
 pub fill_means : FillTileIsFill
 unfolding fill_form
-fill_means box ts q x width v fs names u rs outs g tiled at_out shape =
+fill_means box cut os ns x width v fs names u rs outs g tiled at_out shape =
     let n : ℕ = length box in
     fill_is v outs rs u
     ∙ (λ j. kind_meaning (generic_of (fill_form (width_of (at_out j)) (length (grid_of (at_out j)).extents)) (v ∷ []) outs) rs u)
-    ∙ (λ j. kind_meaning (generic_of (fill_form width (tile_rank n (tile_sizes box ts q) g shape j)) (v ∷ []) outs) rs u)
-    ∙ copied n (is_cut ts) [] v fs outs width rs u names
+    ∙ (λ j. kind_meaning (generic_of (fill_form width (tile_rank n ns g shape j)) (v ∷ []) outs) rs u)
+    ∙ copied n cut [] v fs outs width rs u names
 
 pub transpose_means : TransposeTileIsTranspose
 unfolding transpose_form
-transpose_means box ts q order x width v fs names rank u rs outs g tiled at_out shape =
+transpose_means box cut os ns order x width v fs names rank u rs outs g tiled at_out shape =
     let n : ℕ = length box in
     transpose_is v outs order rs u
     ∙ (λ j. kind_meaning (generic_of (transpose_form (width_of (at_out j)) order) (v ∷ []) outs) rs u)
     ∙ (λ j. kind_meaning (Generic (select_map (rank j) (map (λ axis. place_of axis 0 order) (count_up 0 (rank j))) ∷ identity_of (rank j) ∷ []) (replicate (rank j) Parallel) (v ∷ []) outs [] (copying width)) rs u)
-    ∙ copied n (is_cut ts) (map (λ axis. place_of axis 0 order) (count_up 0 n)) v fs outs width rs u names
+    ∙ copied n cut (map (λ axis. place_of axis 0 order) (count_up 0 n)) v fs outs width rs u names
 
 pub broadcast_means : BroadcastTileIsBroadcast
 unfolding broadcast_form
-broadcast_means box ts q added x width v fs names u rs outs g tiled at_out shape =
+broadcast_means box cut os ns added x width v fs names u rs outs g tiled at_out shape =
     let n : ℕ = length box in
     broadcast_is v outs added rs u
     ∙ (λ j. kind_meaning (generic_of (broadcast_form (width_of (at_out j)) (length (grid_of (at_out j)).extents) added) (v ∷ []) outs) rs u)
-    ∙ (λ j. kind_meaning (generic_of (broadcast_form width (tile_rank n (tile_sizes box ts q) g shape j) added) (v ∷ []) outs) rs u)
-    ∙ copied n (is_cut ts) (kept added 0 (count_up 0 n)) v fs outs width rs u names
+    ∙ (λ j. kind_meaning (generic_of (broadcast_form width (tile_rank n ns g shape j) added) (v ∷ []) outs) rs u)
+    ∙ copied n cut (kept added 0 (count_up 0 n)) v fs outs width rs u names

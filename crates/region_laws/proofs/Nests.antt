@@ -25,7 +25,7 @@ use Rattle.mlir_meaning.proofs.States.{set_same, set_other, apart}
 -- ONE LOOP
 module _ {A : Type 0} (datum : A → Datum) where
   -- one after another, for the numbers from k on
-  abbrev each_turn : (ℕ → A → Option A) → ℕ → ℕ → Option A → Option A
+  abbrev pub each_turn : (ℕ → A → Option A) → ℕ → ℕ → Option A → Option A
   each_turn one n k o = fold (λ o k. option_and_then (one k) o) o (count_up k n)
 
   module _ (t N : ℕ) (B : ℤ → List Datum → Outcome) (one : ℕ → A → Option A) (each : (k : ℕ) (a : A) → k < N → B (pos (k * t)) (datum a ∷ []) ≡ ended datum (one k a)) where
@@ -70,7 +70,7 @@ module _ {A : Type 0} (datum : A → Datum) where
   each_tile ds one o = fold (λ o q. option_and_then (one q) o) o (points (counts ds))
 
   -- the tiles in lexicographic order are, for each of the first dimension, those of the others
-  in_rows : (d : ℕ × ℕ) (ds : List (ℕ × ℕ)) (one : List ℕ → A → Option A) (o : Option A) →
+  pub in_rows : (d : ℕ × ℕ) (ds : List (ℕ × ℕ)) (one : List ℕ → A → Option A) (o : Option A) →
       each_turn (λ k b. each_tile ds (λ q. one (k ∷ q)) (Some b)) (tile_count d.0 d.1) 0 o ≡ each_tile (d ∷ ds) one o
   in_rows d ds one o =
       sym (fold-flat_map (λ o q. option_and_then (one q) o) (λ k. map (λ q. k ∷ q) (points (counts ds))) (count_up 0 (tile_count d.0 d.1)) o

@@ -1,5 +1,5 @@
 -- The nest of `scf.for` over the tiles of a generic, and the `scf.forall`, mean what the generic means.
-use Rattle.std.proofs.Common.{◌≡◌, ℕ, ◌<◌, Bool, false, List, [], ◌∷◌, map, length, fold, get_or, Option, Some, None, refl, ap, sym, ◌∙◌, subst, arith}
+use Rattle.std.proofs.Common.{◌≡◌, ℕ, ◌<◌, Bool, false, List, [], ◌∷◌, map, length, fold, get_or, Option, Some, None, ◌⊎◌, ⊎_elim, refl, ap, sym, ◌∙◌, subst, arith}
 use Rattle.std.specs.Prelude.{option_map, option_and_then}
 use Rattle.std.proofs.lemmas.Bool.{or_parts}
 use Rattle.affine_maps.specs.Map.{dimension}
@@ -9,17 +9,18 @@ use Rattle.mlir_ir.specs.declared.tree.Op.{Op}
 use Rattle.mlir_ir.specs.declared.tree.Ty.{Ty}
 use Rattle.mlir_ir.specs.declared.tree.ValueId.{ValueId}
 use Rattle.mlir_ir.specs.declared.tree.Idx.{Idx}
-use Rattle.mlir_meaning.specs.Grids.{points, at, plus, lies_in, all_some, settled, InBox, IsFull, Each}
+use Rattle.mlir_meaning.specs.Grids.{points, at, plus, lies_in, all_some, InBox, IsFull, Each}
 use Rattle.mlir_meaning.specs.Loops.{ForallHead}
 use Rattle.mlir_meaning.specs.Meaning.{kind_meaning, run}
+use Rattle.mlir_meaning.specs.Moves.{insert_into}
 use Rattle.mlir_meaning.specs.States.{State, made}
-use Rattle.mlir_meaning.specs.Structured.{generic_step, generic_element, generic_result, elements}
+use Rattle.mlir_meaning.specs.Structured.{generic_step, generic_result, elements}
 use Rattle.mlir_meaning.specs.declared.values.Grid.{Grid}
 use Rattle.mlir_meaning.specs.declared.values.Datum.{Datum}
 use Rattle.mlir_meaning.specs.declared.values.Datum.TheVariants.{Cells}
 use Rattle.mlir_meaning.proofs.Bodies.{meaning-forall, forall_kind}
 use Rattle.mlir_meaning.proofs.Grids.{each_point, each_more}
-use Rattle.point_laws.specs.Folds.{Swaps, Combines}
+use Rattle.point_laws.specs.Folds.{Combines}
 use Rattle.point_laws.specs.Tiles.{tile_box, cut_dims, tile_offsets, tile_sizes, is_cut}
 use Rattle.region_laws.specs.Regions.{cell, in_turn, Windows, AddsRegions}
 use Rattle.region_laws.specs.Operands.{names_cut, is_sliced, CutsOutput, maps_of, IsTyped}
@@ -59,10 +60,10 @@ whole_adds step box ts ds es unsliced q b cs =
 
 -- TENSORS OF KNOWN EXTENTS, BY THEIR CELLS
 module _ {Q : Type 0} (es : List ℕ) (one : Q → Grid → Option Grid) (cells : Q → List ℕ → Option (List ℕ)) where
-  abbrev ByCells : Q → Type 0
+  abbrev pub ByCells : Q → Type 0
   ByCells q = (cs : List ℕ) → one q (grid es cs) ≡ option_map (grid es) (cells q cs)
 
-  in_cells : (qs : List Q) → Each ByCells qs → (o : Option (List ℕ)) →
+  pub in_cells : (qs : List Q) → Each ByCells qs → (o : Option (List ℕ)) →
       fold (λ o q. option_and_then (one q) o) (option_map (grid es) o) qs ≡ option_map (grid es) (fold (λ o q. option_and_then (cells q) o) o qs)
   in_cells [] each o = refl
   in_cells (q ∷ qs) each o = ap (λ x. fold (λ o q. option_and_then (one q) o) x qs) (first o) ∙ in_cells qs each.1 (option_and_then (cells q) o)
@@ -75,7 +76,7 @@ ended_cells : (width : ℕ) (es : List ℕ) (o : Option (List ℕ)) → ended (C
 ended_cells width es None = refl
 ended_cells width es (Some cs) = refl
 
-map_cells : (width : ℕ) (es : List ℕ) (o : Option (List ℕ)) → option_map (λ cs. Cells width (grid es cs)) o ≡ option_map (Cells width) (option_map (grid es) o)
+pub map_cells : (width : ℕ) (es : List ℕ) (o : Option (List ℕ)) → option_map (λ cs. Cells width (grid es cs)) o ≡ option_map (Cells width) (option_map (grid es) o)
 map_cells width es None = refl
 map_cells width es (Some cs) = refl
 
@@ -86,6 +87,17 @@ module _ (box ts : List ℕ) (ms : List MapShape) (ds : List ℕ) (ins : List Da
 
   abbrev pub result : Option Datum
   result = generic_result (maps_of ms box ds) (length box) ins (Cells width g) captured payload
+
+  -- tiles in turn, in both ways
+  pub tiles_in_turn : (one : List ℕ → Grid → Option Grid) → AddsRegions (picks ds) step box g.extents ts one → CutsOutput (is_cut ts) box ds ⊎ Combines payload →
+      option_map (Cells width) (in_turn one (points (tile_box box ts)) g) ≡ result
+  tiles_in_turn one adds ways =
+      ap (option_map (Cells width))
+      (⊎_elim
+      (λ cuts. carried_apart (picks ds) step box ts (λ q. picks ds (tile_offsets box ts q)) (λ q. picks ds (tile_sizes box ts q)) (picks_apart box ts ds typed.selects cuts) g.extents one adds g.cells full)
+      (λ k. carried_swaps (picks ds) step box ts g.extents one adds
+      (payload_swaps payload k.combiner k.term k.is k.found (λ p. record { point = p; outer = captured; ins = elements ins (maps_of ms box ds) p; out = 0 })) g.cells full) ways)
+      ∙ sym (generic_is box ms ds ins width captured payload g typed)
 
   -- THE NEST OF `scf.for`
   module _ (one : List ℕ → Grid → Option Grid) (adds : AddsRegions (picks ds) step box g.extents ts one)
@@ -106,22 +118,18 @@ module _ (box ts : List ℕ) (ms : List MapShape) (ds : List ℕ) (ins : List Da
         (map_cells width es (each_tile (λ cs. Cells width (grid es cs)) (cut_dims box ts) cells (Some g.cells))
         ∙ ap (option_map (Cells width)) (sym (in_cells es one cells (points (tile_box box ts)) (each_more (InBox (tile_box box ts)) (ByCells es one cells) adds (points (tile_box box ts)) (each_point (tile_box box ts))) (Some g.cells))))
 
-    same_from : in_turn one (points (tile_box box ts)) g ≡ settled g.extents (generic_element (picks ds) step box g) → SameAsGeneric
-    same_from e = nest_in_turn ∙ ap (λ o. made ((l.result, ty) ∷ []) u (option_map (Cells width) o)) e ∙ ap (made ((l.result, ty) ∷ []) u) (sym (generic_is box ms ds ins width captured payload g typed))
-
-    -- tiles of any dimensions, where the terms may change places
-    pub tile_for_swaps : Swaps (λ (o : Option ℕ) p. option_and_then (λ a. step a p) o) → SameAsGeneric
-    tile_for_swaps swaps = same_from (carried_swaps (picks ds) step box ts g.extents one adds swaps g.cells full)
-
-    pub tile_for_combiner : Combines payload → SameAsGeneric
-    tile_for_combiner k = tile_for_swaps (payload_swaps payload k.combiner k.term k.is k.found (λ p. record { point = p; outer = captured; ins = elements ins (maps_of ms box ds) p; out = 0 }))
-
-    -- tiles of parallel dimensions alone, in every case
-    pub tile_for_parallel : CutsOutput (is_cut ts) box ds → SameAsGeneric
-    tile_for_parallel cuts = same_from
-        (carried_apart (picks ds) step box ts (λ q. picks ds (tile_offsets box ts q)) (λ q. picks ds (tile_sizes box ts q)) (picks_apart box ts ds typed.selects cuts) g.extents one adds g.cells full)
+    pub tile_for_is : CutsOutput (is_cut ts) box ds ⊎ Combines payload → SameAsGeneric
+    tile_for_is ways = nest_in_turn ∙ ap (made ((l.result, ty) ∷ []) u) (tiles_in_turn one adds ways)
 
   -- THE `scf.forall`
+  pub started_result : CutsOutput (is_cut ts) box ds →
+      option_map (Cells width) (in_turn (λ q g'. option_map (λ t. insert_into t (picks ds (tile_offsets box ts q)) g') (started_tile step box ts ds g q)) (points (tile_box box ts)) g) ≡ result
+  started_result cuts =
+      ap (option_map (Cells width))
+      (started_apart (picks ds) step box ts (λ q. picks ds (tile_offsets box ts q)) (λ q. picks ds (tile_sizes box ts q)) (picks_apart box ts ds typed.selects cuts) (picks ds) g.extents
+      (subst (λ es. Windows (picks ds) (picks ds) box es ts (λ q. picks ds (tile_offsets box ts q)) (λ q. picks ds (tile_sizes box ts q))) (sym typed.extents) (picks_windows box ts ds typed.selects)) g.cells full)
+      ∙ sym (generic_is box ms ds ins width captured payload g typed)
+
   pub tile_forall : (vs : List ValueId) (lower upper stride : List Idx) (arg outs : ValueId) (ty : Ty) (inner : List Op) (rs : List (ValueId × Ty)) (u : State) →
       let h : ForallHead = record { vars = vs; lower = lower; upper = upper; step = stride; shared = (arg, ty, outs) ∷ [] } in
       CutsOutput (is_cut ts) box ds → TileLoop (cut_dims box ts) u h → u.values outs.0 ≡ Cells width g →
@@ -131,10 +139,7 @@ module _ (box ts : List ℕ) (ms : List MapShape) (ds : List ℕ) (ins : List Da
       let h : ForallHead = record { vars = vs; lower = lower; upper = upper; step = stride; shared = (arg, ty, outs) ∷ [] } in
       (λ j. meaning-forall h inner j rs u)
       ∙ forall_is (cut_dims box ts) u vs lower upper stride arg outs ty (run inner) rs width g (started_tile step box ts ds g) (λ q. picks ds (tile_offsets box ts q)) loop start notes
-      ∙ ap (λ o. made rs u (option_map (Cells width) o))
-      (started_apart (picks ds) step box ts (λ q. picks ds (tile_offsets box ts q)) (λ q. picks ds (tile_sizes box ts q)) (picks_apart box ts ds typed.selects cuts) (picks ds) g.extents
-      (subst (λ es. Windows (picks ds) (picks ds) box es ts (λ q. picks ds (tile_offsets box ts q)) (λ q. picks ds (tile_sizes box ts q))) (sym typed.extents) (picks_windows box ts ds typed.selects)) g.cells full)
-      ∙ ap (made rs u) (sym (generic_is box ms ds ins width captured payload g typed))
+      ∙ ap (made rs u) (started_result cuts)
 
 pub tiles_add : TilesAddRegions
 tiles_add step box ts ds inside =

@@ -3,6 +3,10 @@ pub mod Operands
 pub mod Instances
 pub mod Nests
 pub mod TileLoops
+pub mod Moved
+pub mod Captured
 pub mod Shifts
 pub mod Bodies
+pub mod Among
+pub mod Spans
 pub mod Laws

@@ -66,6 +66,29 @@ abbrev pub operand_tiles : (ℕ → Bool) → List ℕ → List ℕ → List Map
 operand_tiles cut os ns (m ∷ ms) (x ∷ xs) = operand_tile cut os ns m x ∷ operand_tiles cut os ns ms xs
 operand_tiles cut os ns _ _ = []
 
+-- AN OPERAND of an operation before and after a step: its map before, the padding value that it is given, what it
+-- holds before and after
+pub record Operand : Type 0 where
+  pub axes : MapShape
+  pub value : ℕ
+  pub old : Datum
+  pub new : Datum
+
+abbrev pub maps_in : List Operand → List MapShape
+maps_in os = map (λ (o : Operand). o.axes) os
+
+abbrev pub olds : List Operand → List Datum
+olds os = map (λ (o : Operand). o.old) os
+
+abbrev pub news : List Operand → List Datum
+news os = map (λ (o : Operand). o.new) os
+
+-- those of an operation on a tile, from its maps and what its operands hold: no padding, and the operand's tile after
+abbrev pub tiled_operands : (ℕ → Bool) → List ℕ → List ℕ → List MapShape → List Datum → List Operand
+tiled_operands cut os ns (m ∷ ms) (x ∷ xs) =
+    record { axes = m; value = 0; old = x; new = operand_tile cut os ns m x } ∷ tiled_operands cut os ns ms xs
+tiled_operands cut os ns _ _ = []
+
 -- WHAT IS KNOWN OF OPERANDS
 -- no number of an expression is negative, and its terms name dimensions
 abbrev pub ArePlain : ℕ → List (ℕ × ℤ) → Type 0

@@ -13,11 +13,16 @@ use Rattle.mlir_meaning.specs.declared.values.Datum.TheVariants.{Cells}
 use Rattle.point_laws.specs.Tiles.{tile_offsets, tile_sizes, counts}
 use Rattle.region_laws.specs.Regions.{tile, tile_step, whole_step}
 use Rattle.point_laws.specs.Boxes.{picks}
+use Rattle.region_laws.specs.Instances.{Instance, step_of}
 use Rattle.region_laws.specs.Nests.{Level, level_loop, nest_body, ended, Knows, HasNumber, Bounded, AreNew, InTurn, last_arg, noted}
 
 -- the operation that is the whole nest
 abbrev pub nest_op : ValueId → Ty → Level → List Level → List Op → ValueId → Op
 nest_op lower ty l ls inner current = for_op (level_loop lower ty current l) (nest_body lower ty ls inner l.arg)
+
+-- the tile of a region of a generic, from a tensor
+abbrev pub region_tile : Instance → List ℕ → List ℕ → Grid → Option Grid
+region_tile g os ns = tile (picks g.ds) (step_of g) os ns (picks g.ds os) (picks g.ds ns)
 
 -- one tile of which the output is sliced, and one of which it isn't
 abbrev pub sliced_tile : (ℕ → List ℕ → Option ℕ) → List ℕ → List ℕ → List ℕ → List ℕ → Grid → Option Grid

@@ -129,7 +129,7 @@ operands_sizes t u d (m ∷ ms) (v ∷ vs) s =
 
 -- WHAT IS KNOWN OF A DIMENSION
 -- the axis that gives it passes each test that all axes pass
-found : (P : Axis → Bool) (all : List Axis) (d : ℕ) (x : Extent) → list_all P all ≡ true → extent_of all d ≡ Some x → P (d, x) ≡ true
+pub found : (P : Axis → Bool) (all : List Axis) (d : ℕ) (x : Extent) → list_all P all ≡ true → extent_of all d ≡ Some x → P (d, x) ≡ true
 found P [] d x h e = absurd (none-some x e)
 found P (a ∷ all) d x h e = by (a.0 == d) refl (λ k. found P all d x (and_parts (P a) (list_all P all) h).1 k) e where
   by : (b : Bool) → (a.0 == d) ≡ b → (extent_of all d ≡ Some x → P (d, x) ≡ true) → (if b then Some a.1 else extent_of all d) ≡ Some x → P (d, x) ≡ true

@@ -3,9 +3,14 @@ use Rattle.std.proofs.Common.{◌≡◌, ℕ, suc, ◌+◌, ◌-◌, ◌<◌, �
 use Rattle.std.specs.Prelude.{zip, ⊤}
 use Rattle.std.specs.List.{list_all}
 use Rattle.std.proofs.lemmas.Bool.{and_parts}
+use Rattle.std.proofs.lemmas.List.{length-map}
 use Rattle.affine_maps.specs.Shape.{MapShape}
 use Rattle.affine_maps.specs.Map.{IsMap, map_fits}
 use Rattle.mlir_base.specs.Types.{bits_of}
+use Rattle.payload_ops.specs.Values.{is_supplied}
+use Rattle.payload_ops.specs.declared.step.PayloadStep.{PayloadStep}
+use Rattle.payload_ops.specs.declared.step.StepOp.{StepOp}
+use Rattle.payload_ops.specs.declared.step.StepOp.TheVariants as S
 use Rattle.mlir_base.specs.declared.types.ElemTy.{ElemTy}
 use Rattle.mlir_base.specs.declared.types.ElemTy.TheVariants.{Int, Index}
 use Rattle.mlir_ir.specs.declared.tree.Iter.{Iter}
@@ -14,7 +19,7 @@ use Rattle.mlir_ir.specs.declared.tree.Ty.{Ty}
 use Rattle.mlir_ir.specs.declared.tree.Ty.TheVariants.{Scalar, Tensor, Vector}
 use Rattle.mlir_ir.specs.declared.tree.ValueId.{ValueId}
 use Rattle.mlir_meaning.specs.Grids.{IsFull, Each}
-use Rattle.mlir_meaning.specs.Meaning.{values_in, captured_in}
+use Rattle.mlir_meaning.specs.Meaning.{values_in, captured_in, scalar_in}
 use Rattle.mlir_meaning.specs.Points.{has}
 use Rattle.mlir_meaning.specs.States.{State, made, grid_of, width_of}
 use Rattle.mlir_meaning.specs.Structured.{generic_result, operand_extent}
@@ -24,7 +29,7 @@ use Rattle.mlir_meaning.proofs.States.{generic_runs}
 use Rattle.mlir_verify.specs.Constants.{Constants}
 use Rattle.mlir_verify.specs.Place.{Types}
 use Rattle.mlir_verify.specs.Tensors.{extents_of, has_elements}
-use Rattle.mlir_verify.specs.Types.{is_input, is_typed}
+use Rattle.mlir_verify.specs.Types.{names_present, is_input, is_typed}
 use Rattle.mlir_verify.specs.Maps.{breaks_maps, breaks_iterators, fit_operands, cover_dimensions, match_output, is_iterator, output_map, output_dimensions}
 use Rattle.mlir_verify.specs.Extents.{breaks_extents, keeps_extents}
 use Rattle.mlir_verify.specs.Windows.{breaks_windows, inputs_stay_in}
@@ -68,7 +73,7 @@ holds_extents (Some (Vector es w)) d i h = absurd i
 holds_extents None d i h = absurd i
 
 -- the output is a tensor of the payload's output
-record IsOutput (o : Option Ty) (d : Datum) (e : ElemTy) : Type 0 where
+pub record IsOutput (o : Option Ty) (d : Datum) (e : ElemTy) : Type 0 where
   operand : IsOperand o
   cells : d ≡ Cells (width_of d) (grid_of d)
   width : width_of d ≡ bits_of e
@@ -94,6 +99,31 @@ module _ (t : Types) (c : Constants) (u : State) (typed : AreTyped t u) where
       let parts = and_parts (is_input (t v.0) (c v.0) e) _ h in
       (holds_extents (t v.0) (u.values v.0) (input_is (t v.0) (c v.0) e parts.0) (typed v.0), inputs_sized ins es (omega arith) parts.1)
 
+element_is : (o : Option Ty) (e : ElemTy) → has_elements o e ≡ true → (w : ℕ) × (e ≡ Int w)
+element_is (Some (Tensor es v)) (Int b) h = (b, refl)
+element_is (Some (Tensor es v)) Index h = absurd cc
+element_is (Some (Scalar x)) e h = absurd cc
+element_is (Some (Vector es w)) e h = absurd cc
+element_is None e h = absurd cc
+
+-- what the steps name is there
+present_is : (dims caps : ℕ) (op : StepOp) → is_supplied dims caps op ≡ names_present dims caps op
+present_is dims caps (S.Const n) = refl
+present_is dims caps (S.Index d) = refl
+present_is dims caps (S.Captured k) = refl
+present_is dims caps (S.Linear c ts) = refl
+present_is dims caps (S.Binary op a b) = refl
+present_is dims caps (S.Compare c a b) = refl
+present_is dims caps (S.Select c a b) = refl
+present_is dims caps (S.SignExtend a) = refl
+present_is dims caps (S.ZeroExtend a) = refl
+present_is dims caps (S.Truncate a) = refl
+present_is dims caps (S.IndexCast a) = refl
+
+all_supplied : (dims caps : ℕ) (ss : List PayloadStep) → list_all (λ (s : PayloadStep). names_present dims caps s.op) ss ≡ true → Each (λ (s : PayloadStep). is_supplied dims caps s.op ≡ true) ss
+all_supplied dims caps [] h = tt
+all_supplied dims caps (s ∷ ss) h = let parts = and_parts (names_present dims caps s.op) _ h in (present_is dims caps s.op ∙ parts.0, all_supplied dims caps ss parts.1)
+
 maps_each : (ms : List MapShape) → list_all map_fits ms ≡ true → Each IsMap ms
 maps_each [] h = tt
 maps_each (m ∷ ms) h = let parts = and_parts (map_fits m) _ h in (parts.0, maps_each ms parts.1)
@@ -107,22 +137,24 @@ parallel_is Reduction false h = refl
 module _ (t : Types) (c : Constants) (wanted : List Ty) (rs : List (ValueId × Ty)) (g : Structured) (u : State) (typed : AreTyped t u)
     (types : is_typed t c wanted rs (kind_of g) ≡ true) (maps : breaks_maps t (kind_of g) ≡ false) (iterators : breaks_iterators (kind_of g) ≡ false)
     (extents : breaks_extents t wanted rs (kind_of g) ≡ false) (windows : breaks_windows t (kind_of g) ≡ false) where
-  pub is_instance : IsInstance g u
-  unfolding is_typed breaks_maps breaks_iterators breaks_extents breaks_windows fit_operands cover_dimensions match_output keeps_extents inputs_stay_in
-  is_instance =
-      let whole = and_parts _ _ types in
-      let parts = and_parts _ _ whole.0 in
+  pub output_there : IsOutput (t g.outs.0) (u.values g.outs.0) g.payload.out
+  unfolding is_typed
+  output_there =
+      let parts = and_parts _ _ (and_parts _ _ types).0 in
+      let payload = and_parts _ _ parts.1 in output_is (t g.outs.0) (u.values g.outs.0) g.payload.out (and_parts (has_elements (t g.outs.0) g.payload.out) _ payload.1).0 (typed g.outs.0)
+
+  -- what the rules say, and what the operands have
+  pub passes_there : Passes t u g.maps g.iterators g.ins g.outs
+  unfolding is_typed breaks_maps breaks_extents breaks_windows fit_operands cover_dimensions keeps_extents inputs_stay_in
+  passes_there =
+      let parts = and_parts _ _ (and_parts _ _ types).0 in
       let front = and_parts (length g.maps == suc (length g.ins)) _ parts.0 in
-      let payload = and_parts _ _ parts.1 in
-      let operands = and_parts (length g.ins == length g.payload.ins) _ payload.0 in
-      let rest = and_parts (has_elements (t g.outs.0) g.payload.out) _ payload.1 in
-      let steps = and_parts _ _ rest.1 in
+      let operands = and_parts (length g.ins == length g.payload.ins) _ (and_parts _ _ parts.1).0 in
       let made_maps = and_parts _ _ front.1 in
       let fit = and_parts _ _ (not_true _ maps) in
       let fits = and_parts _ _ fit.0 in
       let axes = and_parts _ _ (not_true _ extents) in
-      let out : IsOutput (t g.outs.0) (u.values g.outs.0) g.payload.out = output_is (t g.outs.0) (u.values g.outs.0) g.payload.out rest.0 (typed g.outs.0) in
-      let p : Passes t u g.maps g.iterators g.ins g.outs = record {
+      record {
         counted = eqb-true (length g.maps) (suc (length g.ins)) front.0;
         made = maps_each g.maps made_maps.1;
         inputs = fits.0;
@@ -131,8 +163,27 @@ module _ (t : Types) (c : Constants) (wanted : List Ty) (rs : List (ValueId × T
         agree = axes.0;
         windows = not_true _ windows;
         sized = inputs_sized t c u typed g.ins g.payload.ins (eqb-true (length g.ins) (length g.payload.ins) operands.0) operands.1;
-        out_sized = holds_extents (t g.outs.0) (u.values g.outs.0) out.operand (typed g.outs.0);
-      } in
+        out_sized = holds_extents (t g.outs.0) (u.values g.outs.0) output_there.operand (typed g.outs.0);
+      }
+
+  parallel_there : (d : ℕ) → d < length g.iterators → is_parallel (get_or g.iterators d Parallel) ≡ has (output_dimensions (output_map g.maps)) d
+  unfolding breaks_iterators match_output
+  parallel_there d l =
+      let z : 0 + d ≡ d = omega arith in
+      parallel_is (get_or g.iterators d Parallel) (has (output_dimensions (output_map g.maps)) d)
+      (sym (ap (λ k. is_iterator (get_or g.iterators d Parallel) (has (output_dimensions (output_map g.maps)) k)) z)
+      ∙ enumerated g.iterators 0 (λ (i : ℕ × Iter). is_iterator i.1 (has (output_dimensions (output_map g.maps)) i.0)) (not_true _ iterators) d l)
+
+  pub is_instance : IsInstance g u
+  unfolding is_typed
+  is_instance =
+      let parts = and_parts _ _ (and_parts _ _ types).0 in
+      let payload = and_parts _ _ parts.1 in
+      let operands = and_parts (length g.ins == length g.payload.ins) _ payload.0 in
+      let rest = and_parts (has_elements (t g.outs.0) g.payload.out) _ payload.1 in
+      let steps = and_parts _ _ rest.1 in
+      let p = passes_there in
+      let out = output_there in
       let same = maps_are t u g.maps g.iterators g.ins g.outs p in
       let ds_is = out_ds t u g.maps g.iterators g.ins g.outs p in
       record {
@@ -155,10 +206,9 @@ module _ (t : Types) (c : Constants) (wanted : List Ty) (rs : List (ValueId × T
         width = out.width;
         below = out.below;
         payload = steps.1;
+        element = element_is (t g.outs.0) g.payload.out rest.0;
+        supplied = subst (λ (n : ℕ). Each (λ (s : PayloadStep). is_supplied n (length (captured_in u.values g.captured)) s.op ≡ true) g.payload.steps) (box_rank t u g.maps g.iterators g.ins g.outs p)
+            (subst (λ (n : ℕ). Each (λ (s : PayloadStep). is_supplied (length g.iterators) n s.op ≡ true) g.payload.steps) (sym (length-map g.captured (scalar_in u.values))) (all_supplied (length g.iterators) (length g.captured) g.payload.steps steps.0));
         once = ap repeats ds_is ∙ out_once t u g.maps g.iterators g.ins g.outs p;
-        parallel = λ d l.
-            let z : 0 + d ≡ d = omega arith in
-            parallel_is (get_or g.iterators d Parallel) (has (output_dimensions (output_map g.maps)) d)
-            (sym (ap (λ k. is_iterator (get_or g.iterators d Parallel) (has (output_dimensions (output_map g.maps)) k)) z)
-            ∙ enumerated g.iterators 0 (λ (i : ℕ × Iter). is_iterator i.1 (has (output_dimensions (output_map g.maps)) i.0)) (not_true _ iterators) d l);
+        parallel = parallel_there;
       }

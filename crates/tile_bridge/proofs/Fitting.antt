@@ -69,7 +69,7 @@ all_parts f (x ∷ xs) ys h =
     let parts = and_parts (f x) (list_all f (xs ++ ys)) h in
     let rest = all_parts f xs ys parts.1 in ((λ j. parts.0 j && rest.0 j), rest.1)
 
-zip_front : {A B : Type 0} (xs : List A) (a : A) (bs : List B) → length xs ≡ length bs → zip (xs ++ a ∷ []) bs ≡ zip xs bs
+pub zip_front : {A B : Type 0} (xs : List A) (a : A) (bs : List B) → length xs ≡ length bs → zip (xs ++ a ∷ []) bs ≡ zip xs bs
 zip_front [] a [] l = refl
 zip_front [] a (b ∷ bs) l = absurd (omega arith)
 zip_front (x ∷ xs) a [] l = absurd (omega arith)
@@ -87,7 +87,7 @@ enumerated (i ∷ its) a P h (suc k) l =
     let e : a + suc k ≡ (a + 1) + k = omega arith in
     ap (λ m. P (m, get_or its k Parallel)) e ∙ enumerated its (a + 1) P (and_parts (P (a, i)) _ h).1 k (omega arith)
 
-any_enumerated : (its : List Iter) (a : ℕ) (P : ℕ → Bool) → list_any (λ (i : ℕ × Iter). P i.0) (enumerate_from a its) ≡ true → (k : ℕ) × (k < length its) × (P (a + k) ≡ true)
+pub any_enumerated : (its : List Iter) (a : ℕ) (P : ℕ → Bool) → list_any (λ (i : ℕ × Iter). P i.0) (enumerate_from a its) ≡ true → (k : ℕ) × (k < length its) × (P (a + k) ≡ true)
 any_enumerated [] a P h = absurd cc
 any_enumerated (i ∷ its) a P h = by (P a) refl (any_enumerated its (a + 1) P) h where
   by : (b : Bool) → P a ≡ b → (list_any (λ (i : ℕ × Iter). P i.0) (enumerate_from (a + 1) its) ≡ true → (k : ℕ) × (k < length its) × (P ((a + 1) + k) ≡ true)) →
@@ -225,7 +225,7 @@ module _ (t : Types) (u : State) (maps : List MapShape) (iterators : List Iter) 
   there : (d : ℕ) → d < n → is_some (extent_of all d) ≡ true
   there d l = let z : 0 + d ≡ d = omega arith in ap (λ k. is_some (extent_of all k)) (sym z) ∙ enumerated iterators 0 (λ (i : ℕ × Iter). is_some (extent_of all i.0)) p.covers d l
 
-  known : (d : ℕ) → d < length box → extent_of all d ≡ Some (Fixed (get_or box d 0))
+  pub known : (d : ℕ) → d < length box → extent_of all d ≡ Some (Fixed (get_or box d 0))
   known d l =
       let m : d < n = omega (arith, l, rank) in
       known_is all d (operand_extent d maps operands) p.agree (there d m) (sizes d)

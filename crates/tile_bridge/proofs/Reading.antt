@@ -71,7 +71,7 @@ module _ (box : List ℕ) (known : ℕ → Option Extent) (is : (d : ℕ) → d 
     greatest_sum [] h = refl
     greatest_sum (t ∷ ts) h = λ j. (h.0.0 j *ℤ greatest_is t.0 h.0.1 j) +ℤ greatest_sum ts h.1 j
 
-    greatest_at : (e : Expr) → IsPlain (length box) e → greatest_value known e ≡ pos (to_nat e.constant + reach e.terms box)
+    pub greatest_at : (e : Expr) → IsPlain (length box) e → greatest_value known e ≡ pos (to_nat e.constant + reach e.terms box)
     greatest_at e h = λ j. h.0 j +ℤ greatest_sum e.terms h.1 j
 
   below_size : (n : ℕ) (x : Extent) (y : ℕ) → is_below (pos n) x ≡ true → IsSized (x ∷ []) (y ∷ []) → n < y

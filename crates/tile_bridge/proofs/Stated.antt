@@ -10,8 +10,9 @@ use Rattle.verified_runs.specs.Passes.{Scope, OpPasses, scope_in}
 use Rattle.verified_runs.specs.Typed.{AreTyped}
 use Rattle.verified_runs.proofs.NamedLaws.{named_means_generic, generic_passes}
 use Rattle.verified_runs.proofs.Runs.{comes_typed, place_passes}
+use Rattle.region_laws.proofs.Shifts.{indices_move}
 use Rattle.tile_bridge.specs.Instances.{IsInstance, instance_of}
-use Rattle.tile_bridge.specs.Laws.{OperandsFitBox, RunsReachInstances, InstancesAreTyped, ParallelCutsOutput}
+use Rattle.tile_bridge.specs.Laws.{OperandsFitBox, RunsReachInstances, InstancesAreTyped, ParallelCutsOutput, TilesOfPayloads}
 use Rattle.tile_bridge.proofs.Bridge.{is_instance}
 
 -- the generic that an operation is passes, and so fits its box
@@ -36,3 +37,7 @@ instances_typed g u i = typed_instance (instance_of g u) i.fits
 pub parallel_cuts : ParallelCutsOutput
 parallel_cuts g u i cut only d l h =
     let m : d < length g.iterators = omega (arith, l, i.rank) in sym (i.parallel d m) ∙ only d m h
+
+pub tiles_of_payloads : TilesOfPayloads
+tiles_of_payloads g u i os ns outer c f offsets fits places adds =
+    indices_move g.payload i.element.0 (instance_of g u).box os ns (instance_of g u).captured outer c f offsets fits i.payload i.element.1 i.supplied places adds

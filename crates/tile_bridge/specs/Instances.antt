@@ -4,6 +4,9 @@ use Rattle.std.specs.Prelude.{◌≡◌, ℕ, ◌<◌, ◌^◌, Bool, true, fals
 use Rattle.affine_maps.specs.Shape.{MapShape}
 use Rattle.affine_maps.specs.Permutation.{repeats}
 use Rattle.payload_ops.specs.Payload.{IsPayload}
+use Rattle.payload_ops.specs.Values.{is_supplied}
+use Rattle.payload_ops.specs.declared.step.PayloadStep.{PayloadStep}
+use Rattle.mlir_base.specs.declared.types.ElemTy.TheVariants.{Int}
 use Rattle.mlir_base.specs.Types.{bits_of}
 use Rattle.mlir_ir.specs.declared.tree.Iter.{Iter}
 use Rattle.mlir_ir.specs.declared.tree.Iter.TheVariants.{Parallel, Reduction}
@@ -49,8 +52,8 @@ is_parallel Parallel = true
 is_parallel Reduction = false
 
 -- WHAT A VERIFIED GENERIC IS IN A STATE: its operands fit its box; it means the instance's result; the inputs and the
--- output are full, with elements of the payload's types; its payload is one; and its parallel dimensions are those of
--- the output, each once
+-- output are full, with elements of the payload's types; its payload is one, whose steps name dimensions and captured
+-- values that are there; and its parallel dimensions are those of the output, each once
 pub record IsInstance (g : Structured) (u : State) : Type 0 where
   pub fits : FitsItsBox (instance_of g u)
   pub rank : length g.iterators ≡ length (instance_of g u).box
@@ -62,6 +65,9 @@ pub record IsInstance (g : Structured) (u : State) : Type 0 where
   pub width : (instance_of g u).width ≡ bits_of g.payload.out
   pub below : Each (λ c. c < 2 ^ bits_of g.payload.out) (instance_of g u).out.cells
   pub payload : IsPayload g.payload
+  pub element : (w : ℕ) × (g.payload.out ≡ Int w)
+  pub supplied : Each (λ (s : PayloadStep).
+      is_supplied (length (instance_of g u).box) (length (instance_of g u).captured) s.op ≡ true) g.payload.steps
   pub once : repeats (instance_of g u).ds ≡ false
   pub parallel : (d : ℕ) → d < length g.iterators → is_parallel (slice_index_or g.iterators d Parallel)
       ≡ has (instance_of g u).ds d

@@ -1,5 +1,5 @@
 -- The laws. Each is the contract of a function in `src/laws.rt`.
-use Rattle.std.specs.Prelude.{◌≡◌, ℕ, ◌<◌, Bool, true, List, ◌∷◌, Some, slice_index_or, length}
+use Rattle.std.specs.Prelude.{◌≡◌, ℕ, ◌<◌, Bool, true, List, ◌∷◌, map, Some, slice_index, slice_index_or, length}
 use Rattle.mlir_ir.specs.Shape.{FuncShape, TensorShape}
 use Rattle.mlir_ir.specs.declared.tree.Iter.TheVariants.{Parallel}
 use Rattle.mlir_ir.specs.declared.tree.Op.{Op}
@@ -9,7 +9,10 @@ use Rattle.mlir_meaning.specs.Meaning.{initial_state, kind_meaning}
 use Rattle.mlir_meaning.specs.States.{State, made}
 use Rattle.mlir_verify.specs.Place.{type_among}
 use Rattle.region_laws.specs.Instances.{IsTypedInstance, result_of}
-use Rattle.region_laws.specs.Operands.{CutsOutput}
+use Rattle.payload_ops.specs.Payload.{IsPayload}
+use Rattle.mlir_meaning.specs.Grids.{Fits}
+use Rattle.region_laws.specs.Operands.{CutsOutput, IsMoved}
+use Rattle.region_laws.specs.Shifts.{Offset, IsOffset, tile_payload, tile_captured}
 use Rattle.verified_runs.specs.Forms.{Structured, structured_of}
 use Rattle.verified_runs.specs.Passes.{Scope, OpPasses, FuncPasses, scope_in}
 use Rattle.verified_runs.specs.Typed.{AreTyped, AreOf, types_of}
@@ -40,3 +43,15 @@ abbrev pub ParallelCutsOutput : Type 0
 ParallelCutsOutput = (g : Structured) (u : State) → IsInstance g u → (cut : ℕ → Bool) →
     ((d : ℕ) → d < length g.iterators → cut d ≡ true → is_parallel (slice_index_or g.iterators d Parallel) ≡ true) →
     CutsOutput cut (instance_of g u).box (instance_of g u).ds
+
+-- the payload of a tile of an instance is one, and gives what the instance's gives at the point moved, where its
+-- captured values are among c values and each offset is a number or one of them
+abbrev pub TilesOfPayloads : Type 0
+TilesOfPayloads = (g : Structured) (u : State) → IsInstance g u → (os ns outer : List ℕ) (c : ℕ) (f : ℕ → ℕ)
+    (offsets : ℕ → Offset) → Fits (instance_of g u).box os ns →
+    ((k : ℕ) → k < length (instance_of g u).captured →
+    (f k < c) × (slice_index outer (f k) ≡ slice_index (instance_of g u).captured k)) →
+    ((d : ℕ) → d < length (instance_of g u).box → IsOffset c outer (slice_index os d) (offsets d)) →
+    IsPayload (tile_payload offsets c f g.payload)
+    × IsMoved os ns g.payload (instance_of g u).captured (tile_payload offsets c f g.payload)
+    (map (slice_index outer) (tile_captured offsets c f g.payload))

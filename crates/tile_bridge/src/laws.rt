@@ -1,4 +1,5 @@
 ghost use Rattle.tile_bridge.specs.Laws.{OperandsFitBox, RunsReachInstances, InstancesAreTyped, ParallelCutsOutput};
+ghost use Rattle.tile_bridge.specs.Laws.{TilesOfPayloads};
 
 // The functions here have no code: their contracts are the laws, over the definitions in `specs/`.
 
@@ -8,6 +9,7 @@ pub fn operands_fit_their_box()
     ensures fits { OperandsFitBox }
     ensures typed { InstancesAreTyped }
     ensures cuts { ParallelCutsOutput }
+    ensures payloads { TilesOfPayloads }
 {}
 
 /// So it is in each state in which a run of a verified function comes to the operation, at any place.

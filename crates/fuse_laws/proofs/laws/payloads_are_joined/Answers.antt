@@ -1,6 +1,4 @@
 use Rattle.fuse_laws.proofs.Joining.{joined_gives, joined_fits}
-use Rattle.fuse_laws.proofs.Hoisting.{hoisted_gives}
-use Rattle.fuse_laws.proofs.Placing.{placed_gives}
 use Rattle.fuse_laws.proofs.laws.payloads_are_joined.Goals as goal
 
 pub returns-clause-gives : goal.returns-clause-gives
@@ -8,9 +6,3 @@ returns-clause-gives c = joined_gives
 
 pub returns-clause-fits : goal.returns-clause-fits
 returns-clause-fits c = joined_fits
-
-pub returns-clause-hoisted : goal.returns-clause-hoisted
-returns-clause-hoisted c = hoisted_gives
-
-pub returns-clause-placed : goal.returns-clause-placed
-returns-clause-placed c = placed_gives

@@ -1,6 +1,7 @@
 use Rattle.region_laws.proofs.Extents.{tile_box_is}
 use Rattle.region_laws.proofs.Operands.{operand_is}
-use Rattle.region_laws.proofs.Sliced.{slice_of_whole}
+use Rattle.region_laws.proofs.Records.{operands_are_records}
+use Rattle.region_laws.proofs.Sliced.{slice_of_whole, slice_of_result}
 use Rattle.region_laws.proofs.Stated.{tiled_generic, typed_instance}
 use Rattle.region_laws.proofs.TileLoops.{tiles_add}
 use Rattle.region_laws.proofs.laws.generics_have_tiles.Goals as goal
@@ -10,6 +11,9 @@ returns-clause-typed c = typed_instance
 
 pub returns-clause-operands : goal.returns-clause-operands
 returns-clause-operands c = operand_is
+
+pub returns-clause-records : goal.returns-clause-records
+returns-clause-records c = operands_are_records
 
 pub returns-clause-box_of : goal.returns-clause-box_of
 returns-clause-box_of c = tile_box_is
@@ -22,3 +26,6 @@ returns-clause-adds c = tiles_add
 
 pub returns-clause-slice : goal.returns-clause-slice
 returns-clause-slice c = slice_of_whole
+
+pub returns-clause-result : goal.returns-clause-result
+returns-clause-result c = slice_of_result

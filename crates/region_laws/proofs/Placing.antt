@@ -20,13 +20,12 @@ use Rattle.payload_ops.proofs.StepsLemmas.{steps_values-append}
 use Rattle.mlir_meaning.specs.Grids.{count_up, Each}
 use Rattle.mlir_meaning.specs.Points.{has, place_of}
 use Rattle.point_laws.proofs.Tables.{tabled_at, tabled_length, count_length}
-use Rattle.fuse_laws.specs.Moved.{args_of, captured_step, number, block}
-use Rattle.fuse_laws.specs.Joined.{own_index}
-use Rattle.fuse_laws.specs.Captured.{news_of, news, named, used, spots, others, placed_steps, placed_to, in_front, placed, IsBehind, IsNotCaptured}
-use Rattle.fuse_laws.proofs.Moves.{Both, type_in, type_kept, type_new, value_kept, value_new}
-use Rattle.fuse_laws.proofs.Alike.{Typed, Agree, Alike, Supplied, none_alike, then_alike, one}
-use Rattle.fuse_laws.proofs.Joining.{captured_values, front_run, front_at, yields}
-use Rattle.fuse_laws.specs.Laws.{PlacedGives}
+use Rattle.region_laws.specs.Moved.{args_of, captured_step, own_index, number, block}
+use Rattle.region_laws.specs.Captured.{news_of, news, named, used, spots, others, placed_steps, placed_to, in_front, placed, IsBehind, IsNotCaptured}
+use Rattle.region_laws.proofs.Moves.{Both, type_in, type_kept, type_new, value_kept, value_new}
+use Rattle.region_laws.proofs.Alike.{Typed, Agree, Alike, Supplied, none_alike, then_alike, one}
+use Rattle.region_laws.proofs.Fronts.{captured_values, front_run, front_at, yields}
+use Rattle.region_laws.specs.Laws.{PlacedGives}
 
 -- NUMBERS AMONG OTHERS
 or_true : (b : Bool) → (b || true) ≡ true
@@ -282,10 +281,10 @@ module _ (c : ℕ) (ins_t : List ElemTy) (out_t : ElemTy) (rest : List PayloadSt
   -- ALL STEPS
   supplied : (M : Arg → Type 0) (op : StepOp) → IsNotCaptured op → Supplied p p' g g' to both_known [] M own_index (λ k. k) op
   unfolding op_value
-  supplied M (Index d) h = λ pre'. record {
+  supplied M (Index d) h = λ pre' mid behind'. record {
     fits = refl;
     typed = type_new p' pre' (record { ty = IndexType; op = Index d }) [] (length pre' + 1 - 1) (omega arith);
-    runs = λ done k. ((get_or point d 0 % 2 ^ 64) ∷ [], refl, refl, (let e : length done ≡ length pre' + 1 - 1 = omega (arith, k) in get_or_at done (get_or point d 0 % 2 ^ 64) [] 0 (length pre' + 1 - 1) e));
+    runs = λ done past k b. ((get_or point d 0 % 2 ^ 64) ∷ [], refl, refl, (let e : length done ≡ length pre' + 1 - 1 = omega (arith, k) in get_or_at done (get_or point d 0 % 2 ^ 64) [] 0 (length pre' + 1 - 1) e));
   }
   supplied M (Captured k) h = absurd h
   supplied M (Const n) h = tt

@@ -10,27 +10,25 @@ use Rattle.payload_ops.specs.declared.step.StepOp.{StepOp}
 use Rattle.payload_ops.specs.declared.step.StepOp.TheVariants.{Captured}
 use Rattle.mlir_meaning.specs.Grids.{count_up}
 use Rattle.mlir_meaning.specs.Points.{has, place_of}
-use Rattle.fuse_laws.specs.Moved.{args_of, captured_step, numbers, block, blocks, number_at}
-use Rattle.fuse_laws.specs.Joined.{own_index}
+use Rattle.region_laws.specs.Moved.{args_of, captured_step, own_index, numbers, block, blocks, number_at}
 
--- IN FRONT: a step for each of c captured values; captured value k of the payload is value f k there
-module _ (c : ℕ) (f : ℕ → ℕ) (p : PayloadShape) where
-  abbrev pub fronts : List PayloadStep
-  fronts = map captured_step (count_up 0 c)
+-- IN FRONT: a step for each of c captured values; captured value k of the payload is value f k there, and each
+-- `linalg.index` becomes the steps that `indices` gives
+abbrev pub fronts : ℕ → List PayloadStep
+fronts c = map captured_step (count_up 0 c)
 
+module _ (indices : ℕ → ℕ → List PayloadStep) (c : ℕ) (f : ℕ → ℕ) (p : PayloadShape) where
   abbrev pub hoisted_to : Arg → Arg
   hoisted_to (Input i) = Input i
   hoisted_to Out = Out
-  hoisted_to (Step i) = Step (number_at (numbers own_index f (length fronts) p.steps) i)
+  hoisted_to (Step i) = Step (number_at (numbers indices f (length (fronts c)) p.steps) i)
+
+  -- the steps behind those in front
+  abbrev pub hoisted_rest : List PayloadStep
+  hoisted_rest = blocks indices hoisted_to (length (fronts c)) p.steps
 
   abbrev pub hoisted : PayloadShape
-  hoisted = record {
-    ins = p.ins;
-    out = p.out;
-    steps = fronts
-        ++ blocks own_index hoisted_to (length fronts) p.steps;
-    yielded = hoisted_to p.yielded;
-  }
+  hoisted = record { ins = p.ins; out = p.out; steps = fronts c ++ hoisted_rest; yielded = hoisted_to p.yielded }
 
 -- AT THE FIRST USE: from a payload that has a step for each of c captured values in front. `seen` are the captured
 -- values that have a step so far.
@@ -81,7 +79,7 @@ module _ (c : ℕ) where
 
   abbrev pub in_front : List ElemTy → ElemTy → List PayloadStep → Arg → PayloadShape
   in_front ins out rest yielded =
-      record { ins = ins; out = out; steps = map captured_step (count_up 0 c) ++ rest; yielded = yielded }
+      record { ins = ins; out = out; steps = fronts c ++ rest; yielded = yielded }
 
   abbrev pub placed : List ElemTy → ElemTy → List PayloadStep → Arg → PayloadShape
   placed ins out rest yielded =

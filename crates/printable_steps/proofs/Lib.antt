@@ -1,0 +1,9 @@
+pub mod Types
+pub mod Lines
+pub mod Bodies
+pub mod Generics
+pub mod Payloads
+pub mod Formed
+pub mod Steps
+pub mod Numbered
+pub mod Renumbered

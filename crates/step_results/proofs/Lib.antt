@@ -1,0 +1,12 @@
+pub mod Numbers
+pub mod Scalars
+pub mod Modules
+pub mod Spots
+pub mod Edits
+pub mod Small
+pub mod Anew
+pub mod Generalized
+pub mod TurnedMaps
+pub mod TurnedPayloads
+pub mod TurnedAxes
+pub mod Interchanged
