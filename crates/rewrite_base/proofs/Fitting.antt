@@ -1,7 +1,9 @@
 -- A generic that stands in a verified module keeps what its types keep.
-use Rattle.std.proofs.Common.{◌≡◌, ◌&&◌, ℕ, zero, suc, Bool, true, false, List, [], ◌∷◌, ◌++◌, map, take, Option, Some, None, refl, sym, ap, subst, ◌∙◌}
+use Rattle.std.proofs.Common.{◌≡◌, ◌==◌, ◌&&◌, length, ℕ, zero, suc, Bool, true, false, List, [], ◌∷◌, ◌++◌, map, take, Option, Some, None, refl, sym, ap, subst, ◌∙◌}
 use Rattle.std.specs.Prelude.{option_and_then, slice_get}
-use Rattle.std.specs.List.{list_all}
+use Rattle.std.specs.List.{list_all, zip}
+use Rattle.mlir_base.specs.declared.types.ElemTy.{ElemTy}
+use Rattle.payload_ops.specs.declared.step.PayloadStep.{PayloadStep}
 use Rattle.std.proofs.lemmas.Bool.{and_parts}
 use Rattle.std.proofs.lemmas.Option.{same_Some}
 use Rattle.affine_maps.specs.Map.{IsMap, map_fits}
@@ -16,7 +18,8 @@ use Rattle.mlir_meaning.specs.Grids.{Each}
 use Rattle.mlir_verify.specs.Constants.{Constants}
 use Rattle.mlir_verify.specs.Place.{Types}
 use Rattle.mlir_verify.specs.Rules.{IsVerified}
-use Rattle.mlir_verify.specs.Types.{is_typed}
+use Rattle.mlir_verify.specs.Tensors.{has_elements}
+use Rattle.mlir_verify.specs.Types.{is_typed, is_input, gives_output, names_present}
 use Rattle.verified_runs.specs.Edits.{renumbered, anew}
 use Rattle.verified_runs.specs.Fresh.{fresh_value, fresh_op}
 use Rattle.verified_runs.specs.Forms.{Structured, kind_of}
@@ -32,14 +35,18 @@ maps_fit : (ms : List MapShape) → list_all map_fits ms ≡ true → Each IsMap
 maps_fit [] h = tt
 maps_fit (m ∷ ms) h = let both = and_parts (map_fits m) (list_all map_fits ms) h in (both.0, maps_fit ms both.1)
 
+abbrev are_inputs : Types → Constants → Structured → Bool
+are_inputs t constants g =
+    (length g.ins == length g.payload.ins) && list_all (λ (x : ValueId × ElemTy). is_input (t x.0.0) (constants x.0.0) x.1) (zip g.ins g.payload.ins)
+
 typed_fits : (t : Types) (constants : Constants) (wanted : List Ty) (results : List (ValueId × Ty)) (g : Structured) → is_typed t constants wanted results (kind_of g) ≡ true → StructuredFits g
 unfolding is_typed
 typed_fits t constants wanted results g h =
-    let whole = and_parts _ _ h in
+    let whole = and_parts _ (gives_output t results g.outs) h in
     let halves = and_parts _ _ whole.0 in
     let front = and_parts _ _ (and_parts _ _ halves.0).1 in
-    let back = and_parts _ _ (and_parts _ _ halves.1).1 in
-    (maps_fit g.maps front.1, (and_parts _ _ back.1).1)
+    let back = and_parts (has_elements (t g.outs.0) g.payload.out) _ (and_parts (are_inputs t constants g) _ halves.1).1 in
+    (maps_fit g.maps front.1, (and_parts (list_all (λ (s : PayloadStep). names_present (length g.iterators) (length g.captured) s.op) g.payload.steps) _ back.1).1)
 
 passes_there : (os : List Op) (scope : Scope) (wanted : List Ty) (n : ℕ) (o : Op) → BodyPasses scope wanted os → slice_get os n ≡ Some o → OpPasses (scope_after scope (take n os)) wanted o
 passes_there [] scope wanted n o h g = absurd cc

@@ -3,3 +3,4 @@ pub mod Rules
 pub mod Verifies
 pub mod Fitting
 pub mod Aimed
+pub mod Absent
