@@ -81,12 +81,7 @@ fn replace(
     Ok(List::from_vec(ops))
 }
 
-fn replace_in(
-    f: Func,
-    position: usize,
-    new: List<Op>,
-    values: &[ValueId],
-) -> Result<Func, Memory>
+fn replace_in(f: Func, position: usize, new: List<Op>, values: &[ValueId]) -> Result<Func, Memory>
     requires there { position < length f.body }
     requires new { 0 < length new }
     ensures { IfOk result (λ g. g ≡ replaced_func position (record { ops = new; values = values.now }) f) }

@@ -30,11 +30,7 @@ fn newer<'a>(known: Option<&'a Ty>, new: Option<&'a Ty>) -> Option<&'a Ty>
 }
 
 /// The type of a value that is in scope after these operations.
-fn type_after<'a>(
-    params: &'a [(ValueId, Ty)],
-    ops: &'a [Op],
-    v: ValueId,
-) -> Option<&'a Ty>
+fn type_after<'a>(params: &'a [(ValueId, Ty)], ops: &'a [Op], v: ValueId) -> Option<&'a Ty>
     ensures { option_copied result ≡ type_among (scope_after params.now ops.now) v.0 }
 {
     let mut found = type_among(params, v);

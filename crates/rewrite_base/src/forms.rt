@@ -67,11 +67,13 @@ fn shape_of(alloc: Global, form: Option<Form>, ins: List<ValueId>, outs: ValueId
     ensures { (f : FormShape) → IsFit FormFits form f → Shapes false (Some (of_form f ins outs)) result }
 {
     match form {
-        Some(Form {
-            maps,
-            iterators,
-            payload,
-        }) => Shape::Becomes(OpKind::Generic {
+        Some(
+            Form {
+                maps,
+                iterators,
+                payload,
+            },
+        ) => Shape::Becomes(OpKind::Generic {
             maps,
             iterators,
             ins,

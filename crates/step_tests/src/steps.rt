@@ -31,11 +31,14 @@ fn module_of(
     kind: OpKind,
 ) -> Result<Checked, Memory> {
     let results = one(alloc, tensor(alloc, sizes)?)?;
-    let mut body = one(alloc, Op {
-        id: OpId(0),
-        results: one(alloc, (ValueId(9), tensor(alloc, sizes)?))?,
-        kind,
-    })?;
+    let mut body = one(
+        alloc,
+        Op {
+            id: OpId(0),
+            results: one(alloc, (ValueId(9), tensor(alloc, sizes)?))?,
+            kind,
+        },
+    )?;
     body.push(Op {
         id: OpId(1),
         results: List::new(alloc),
@@ -81,10 +84,13 @@ fn dimension(alloc: Global, d: u32) -> Result<Expr, Memory> {
 /// Joins the output's element with the input.
 fn joining(alloc: Global, op: BinOp) -> Result<Payload, Memory> {
     let elem = ElemTy::Int(Width::new(32).ok_or(Memory)?);
-    let steps = one(alloc, PayloadStep {
-        ty: elem,
-        op: StepOp::Binary(op, Arg::Out, Arg::Input(0)),
-    })?;
+    let steps = one(
+        alloc,
+        PayloadStep {
+            ty: elem,
+            op: StepOp::Binary(op, Arg::Out, Arg::Input(0)),
+        },
+    )?;
     payload(one(alloc, elem)?, elem, steps, Arg::Step(0)).ok_or(Memory)
 }
 
@@ -110,8 +116,8 @@ fn reduction(alloc: Global, op: BinOp) -> Result<Checked, Memory> {
 }
 
 /// What a step did: the number of the operation that stands for its target, or the rule that it breaks.
-fn outcome(result: &Result<(Checked, Made), StepError>) -> Option<(Option<u32>, Option<StepRule>)> {
-    match result {
+fn outcome(answer: &Result<(Checked, Made), StepError>) -> Option<(Option<u32>, Option<StepRule>)> {
+    match answer {
         Ok(formed) => match formed.1.ops.as_slice().first() {
             Some(op) => Some((Some(op.0), None)),
             None => None,
@@ -149,7 +155,12 @@ fn counts(m: &Module, op: OpId, v: ValueId) -> Option<(usize, usize, usize, u32)
                 iterators,
                 payload,
                 ..
-            } => Some((maps.len(), iterators.len(), payload.steps().len(), uses(m, v))),
+            } => Some((
+                maps.len(),
+                iterators.len(),
+                payload.steps().len(),
+                uses(m, v),
+            )),
             _ => None,
         },
         None => None,
@@ -183,7 +194,10 @@ fn steps_name_the_rule_that_they_break(rt: HostRuntime) -> Result<(), Memory> {
     assert!(rt; outcome(&interchanged(alloc, sum, OpId(0), &[1, 0])) == Some((Some(2), None)));
     let kept = (None, Some(StepRule::ReductionOrder));
     let difference = reduction(alloc, BinOp::Subi)?;
-    assert!(rt; outcome(&interchanged(alloc, difference.copy(alloc)?, OpId(0), &[0, 1])) == Some((Some(2), None)));
+    assert!(rt;
+        outcome(&interchanged(alloc, difference.copy(alloc)?, OpId(0), &[0, 1]))
+            == Some((Some(2), None))
+    );
     assert!(rt; outcome(&interchanged(alloc, difference, OpId(0), &[1, 0])) == Some(kept));
     Ok(())
 }

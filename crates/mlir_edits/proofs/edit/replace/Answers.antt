@@ -20,7 +20,7 @@ returns c =
     let left = whole moved_ops (drop (length moved_ops) c.remove-old.new.self.items) c.remove-old.new.self.len long in
     c.from_vec.ensures
     ∙ replaced_is os moved_ops c.put.new.ops.items n e c.remove-old.result (subst (λ (b : List Op). n < length b) (sym c.into_vec-ops.ensures) c.requires)
-      c.remove-old.ensures.value
-      (c.move_from.ensures ∙ (λ j. take n (rest j) ++ reused_ops (moved (names_of (c.as_slice.ensures j)) c.args.values.now) (drop n (rest j))))
-      (c.in_ok-put.ensures ∙ (λ j. take n (left j) ++ c.into_vec.ensures j ++ drop n (left j)))
+    c.remove-old.ensures.value
+    (c.move_from.ensures ∙ (λ j. take n (rest j) ++ reused_ops (moved (names_of (c.as_slice.ensures j)) c.args.values.now) (drop n (rest j))))
+    (c.in_ok-put.ensures ∙ (λ j. take n (left j) ++ c.into_vec.ensures j ++ drop n (left j)))
     ∙ ap (replaced n e) c.into_vec-ops.ensures

@@ -15,7 +15,7 @@ returns-in-Ok c =
     let there = subst (λ (fs : List FuncShape). is_some (op_at p fs) ≡ true) (sym c.into_vec-funcs.ensures) c.requires.there in
     λ j. record {
       funcs = (c.from_vec.ensures ∙ c.in-Ok.ensures.items
-      ∙ ap (λ (fs : List FuncShape). insert fs p.func c.in_ok-g.g) c.remove-f.ensures.items
-      ∙ put_func all p.func p.op e c.remove-f.result c.in_ok-g.g (func_within p all there) c.remove-f.ensures.value c.in_ok-g.ensures
-      ∙ ap (replaced_among p.func p.op e) c.into_vec-funcs.ensures) j;
+          ∙ ap (λ (fs : List FuncShape). insert fs p.func c.in_ok-g.g) c.remove-f.ensures.items
+          ∙ put_func all p.func p.op e c.remove-f.result c.in_ok-g.g (func_within p all there) c.remove-f.ensures.value c.in_ok-g.ensures
+          ∙ ap (replaced_among p.func p.op e) c.into_vec-funcs.ensures) j;
     }
