@@ -1,5 +1,5 @@
-//! Tests of what steps stand on, of what no clause says: that a module can be copied, that handles can be defined, matched
-//! and consumed, and that named operations have their generics.
+//! Tests of steps and of what they stand on, of what no clause says: that a module can be copied, that handles can be defined,
+//! matched and consumed, that named operations have their generics, and that the steps answer.
 #![tactic(auto)]
 
 #[cfg(test)]
@@ -8,3 +8,5 @@ mod copies;
 mod forms;
 #[cfg(test)]
 mod handles;
+#[cfg(test)]
+mod steps;
