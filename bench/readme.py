@@ -4,11 +4,11 @@
     bench/readme.py PROGRAM
 
 In README.md a block of `sh` with another block behind it is run in the repository, with PROGRAM in the place of `./mlir_opt`; what it
-prints on both streams has to be the block behind it. A block of `mlir` that isn't such an output has to be a file of examples/, and
-the first command that is run, with its output, the stored run of crates/mlir_opt_main.
+prints on both streams has to be the block behind it. A block of `mlir` that isn't such an output has to be a file of examples/. The
+stored run of crates/mlir_opt_main has to be that of examples/add.mlir.
 
 In docs/REFUSALS.md a row of a table is run where its second column is code. What begins with `$ ` is a command, where `mlir_opt`
-stands for PROGRAM; anything else is a text for standard input. The line on standard error has to be the one of the first column,
+stands for PROGRAM; anything else is a text for standard input, under `--transform-interpreter` below the heading Scripts. The line on standard error has to be the one of the first column,
 nothing may stand on standard output, and the status is 1, or the one of the third column where that is a number.
 
 A line for each difference, then one with the counts.
@@ -53,10 +53,9 @@ def examples(program):
     for command, want in commands:
         _, out, err = shell(command, program)
         yield command.strip(), None if out + err == want or err + out == want else f'prints {err + out!r}'
-    stored = read('crates/mlir_opt_main/stdout')
-    text = re.search(r'<\s*(\S+)', commands[0][0])
-    same = text and read(text.group(1)) == read('crates/mlir_opt_main/stdin') and commands[0][1] == stored
-    yield 'the stored run', None if same else "isn't the first command"
+    same = read('examples/add.mlir') == read('crates/mlir_opt_main/stdin')
+    _, out, _ = shell('mlir_opt examples/add.mlir', program)
+    yield 'the stored run', None if same and out == read('crates/mlir_opt_main/stdout') else "isn't that of examples/add.mlir"
 
 
 def cells(row):
@@ -72,14 +71,17 @@ def code(cell):
 
 def refusals(program):
     """Each row of docs/REFUSALS.md with what is wrong, or None."""
+    words = ''
     for row in read('docs/REFUSALS.md').splitlines():
+        if row.startswith('## '):
+            words = ' --transform-interpreter' if row == '## Scripts' else ''
         parts = cells(row) if row.startswith('| `') else []
         line, example = (code(parts[0]), code(parts[1])) if len(parts) > 2 else (None, None)
         if not line or not example:
             continue
         status = int(parts[2]) if parts[2].isdigit() else 1
         if not example.startswith('$ '):
-            told = shell('mlir_opt', program, example)
+            told = shell('mlir_opt' + words, program, example)
         elif 'mlir_opt' in example:
             told = shell(example[2:], program)
         else:

@@ -91,17 +91,23 @@ FAMILIES = {
 }
 
 
-def run(program, text):
-    """Seconds, and peak memory in KiB, of one run."""
+def run(command, text):
+    """Seconds, and peak memory in KiB, of one run of a command, which is given as its words."""
     begin = time.perf_counter()
-    child = subprocess.Popen([program], stdin=subprocess.PIPE, stdout=subprocess.DEVNULL)
+    child = subprocess.Popen(command, stdin=subprocess.PIPE, stdout=subprocess.DEVNULL)
     child.stdin.write(text)
     child.stdin.close()
     _, status, usage = os.wait4(child.pid, 0)
     child.returncode = os.waitstatus_to_exitcode(status)
     if child.returncode != 0:
-        sys.exit(f'{program}: status {child.returncode}')
+        sys.exit(f"{' '.join(command)}: status {child.returncode}")
     return time.perf_counter() - begin, usage.ru_maxrss
+
+
+def best(command, text):
+    """The best time of five runs, and their peak memory."""
+    results = [run(command, text) for _ in range(RUNS)]
+    return min(result[0] for result in results), max(result[1] for result in results)
 
 
 def rows(program, family):
@@ -110,8 +116,7 @@ def rows(program, family):
     before = None
     for size in sizes:
         text = make(size)
-        results = [run(program, text) for _ in range(RUNS)]
-        seconds, peak = min(r[0] for r in results), max(r[1] for r in results)
+        seconds, peak = best([program], text)
         growth = '' if before is None else f'{seconds / before[0]:8.1f} x {peak / before[1]:8.1f} x'
         print(f'{family:10} {size:8} {len(text):9} {seconds * 1000:9.1f} ms {peak:9} KiB {growth}')
         before = seconds, peak

@@ -1,10 +1,11 @@
 -- What a file holds.
-use Rattle.std.proofs.Common.{◌≡◌, ◌∙◌, ℕ, ◌+◌, ◌<◌, ◌≤◌, List, Bool, true, false, Option, Some, None, Ok, Err, arith, sym, ap, subst, refl, length, replicate, nat_lt, Vec, if◌then◌else◌}
+use Rattle.std.proofs.Common.{◌≡◌, ◌∙◌, ℕ, ◌+◌, ◌<◌, ◌≤◌, List, Bool, true, false, Option, Some, None, Ok, Err, arith, sym, ap, subst, refl, inl, length, replicate, nat_lt, Vec, if◌then◌else◌}
+use Rattle.std.proofs.KnownBytes.{Keeps-refl}
 use Rattle.std.proofs.lemmas.List.{length-replicate}
 use Rattle.std.specs.Prelude.{IsSome}
 use Rattle.std.specs.declared.alloc.Global.{Global}
 use Rattle.mlir_base.specs.declared.limit.Which.TheVariants.{Bytes}
-use Rattle.mlir_streams.specs.Loops.{ReadsWhole}
+use Rattle.mlir_streams.specs.Loops.{ReadsWhole, ConsumesAtMost}
 use Rattle.mlir_streams.specs.Shelves.{Files, OpenLeaves}
 use Rattle.mlir_streams.specs.declared.reading.FetchError.TheVariants as fetch
 use Rattle.mlir_streams.specs.declared.reading.FetchError.{FetchError}
@@ -12,7 +13,8 @@ use Rattle.mlir_streams.specs.declared.shelf.OpenError.{OpenError}
 use Rattle.mlir_streams.specs.declared.shelf.OpenError.TheVariants as open_error
 use Rattle.mlir_opt.specs.Answer.{input_of}
 use Rattle.mlir_opt.specs.Causes.{IsAbsent, AskedIsAbsent}
-use Rattle.mlir_opt.specs.Steps.{AreFiles, IsInput, InputAbsence}
+use Rattle.mlir_opt.specs.Asked.{CommandShape, name_of}
+use Rattle.mlir_opt.specs.Steps.{AreFiles, IsInput, InputAbsence, TakesFrom, ReadsFrom, ReadsOnly}
 use Rattle.mlir_opt.specs.declared.refusal.FileError.TheVariants as input
 use Rattle.mlir_opt.specs.declared.refusal.Refusal.TheVariants.{FileAbsent, Limit}
 
@@ -76,13 +78,30 @@ none_of_absent None same = refl
 none_of_absent (Some text) same = absurd (not_absent (nat_lt 4194304 (length text)) text same)
 
 -- a file is absent by its name, or by the count
-absent_of : (told : Option Files) (name : List ℕ) (before now : ℕ) → IsInput told name (Err input.Absent) → InputAbsence {T = Vec ℕ Global} told before now (Err input.Absent) → IsAbsent told name before now
+absent_of : (told : Option Files) (name : List ℕ) (before now : ℕ) → IsInput told name (Err input.Absent) → InputAbsence {T = Vec ℕ Global} told before now (Err input.Absent) → IsAbsent told name (before, now)
 absent_of None name before now absent rose = rose
 absent_of (Some files) name before now absent rose = none_of_absent (files name) (subst (λ fs. input_of (fs name) ≡ Err FileAbsent) absent.1 absent.2)
 
 -- the file that the words ask for
-pub asked_absent : (asked : Option (List ℕ)) (told : Option Files) (name : List ℕ) (before now : ℕ) → asked ≡ Some name → IsInput told name (Err input.Absent) → InputAbsence {T = Vec ℕ Global} told before now (Err input.Absent) → AskedIsAbsent asked told before now
-asked_absent None told name before now same absent rose = absurd (cc same)
-asked_absent (Some other) told name before now same absent rose =
-    let e : name ≡ other = cc same in
-    subst (λ n. IsAbsent told n before now) e (absent_of told name before now absent rose)
+pub asked_absent : (wanted : Option CommandShape) (told : Option Files) (command : CommandShape) (before now : ℕ) → wanted ≡ Some command → IsInput told (name_of command.source) (Err input.Absent) → InputAbsence {T = Vec ℕ Global} told before now (Err input.Absent) → AskedIsAbsent wanted told (before, now)
+asked_absent None told command before now same absent rose = absurd (cc same)
+asked_absent (Some other) told command before now same absent rose =
+    let e : command ≡ other = cc same in
+    subst (λ (c : CommandShape). IsAbsent told (name_of c.source) (before, now)) e (absent_of told (name_of command.source) before now absent rose)
+
+-- what is taken of a file that was opened
+pub taken_from : (T : Type 0) (told : Option Files) (name : List ℕ) (held left : Option (List ℕ)) (opened : T) → OpenLeaves told name held (Ok opened) → ConsumesAtMost 4194305 held left → TakesFrom told name left
+taken_from T None name held left opened leaves taken = tt
+taken_from T (Some files) name held left opened leaves taken = (leaves.0, subst (λ h. ConsumesAtMost 4194305 h left) leaves.1 taken)
+
+-- nothing was read
+pub reads_nothing : (wanted : Option CommandShape) (told : Option Files) (left : Option (List ℕ)) → ReadsOnly wanted told left left
+reads_nothing None told left = Keeps-refl left
+reads_nothing (Some command) told left = inl (Keeps-refl left)
+
+-- the file of the command was read
+pub reads_file : (wanted : Option CommandShape) (told : Option Files) (command : CommandShape) (name : List ℕ) (old new : Option (List ℕ)) → wanted ≡ Some command → name ≡ name_of command.source → ReadsFrom told name old new → ReadsOnly wanted told old new
+reads_file None told command name old new same named reads = absurd (cc same)
+reads_file (Some other) told command name old new same named reads =
+    let e : command ≡ other = cc same in
+    subst (λ n. ReadsFrom told n old new) (named ∙ ap (λ (c : CommandShape). name_of c.source) e) reads

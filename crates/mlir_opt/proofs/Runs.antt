@@ -4,7 +4,8 @@ use Rattle.std.specs.declared.alloc.Global.{Global}
 use Rattle.std.proofs.KnownBytes.{Appends-nil}
 use Rattle.mlir_base.specs.declared.limit.Which.TheVariants.{Bytes}
 use Rattle.mlir_streams.specs.Shelves.{Files}
-use Rattle.mlir_opt.specs.Answer.{asked_file, output_of, verdict_on, verdict}
+use Rattle.mlir_opt.specs.Answer.{output_of, verdict_on, verdict}
+use Rattle.mlir_opt.specs.Asked.{CommandShape, name_of, asked}
 use Rattle.mlir_opt.specs.Causes.{IsVerdict}
 use Rattle.mlir_opt.specs.Processed.{processed}
 use Rattle.mlir_words.specs.declared.request.WordsError.{WordsError}
@@ -15,30 +16,30 @@ use Rattle.mlir_opt.specs.declared.refusal.FileError.TheVariants as input
 use Rattle.mlir_opt.specs.declared.refusal.Refusal.{Refusal}
 use Rattle.mlir_opt.specs.declared.refusal.Refusal.TheVariants.{Words, FileAbsent, ReadFailed, Limit, Memory}
 
--- words that ask for no file are no command, and others are one
-pub no_command : (asked : Option (List ℕ)) → asked ≡ None → is_some asked ≡ false
+-- words that ask for nothing are no command, and others are one
+pub no_command : (wanted : Option CommandShape) → wanted ≡ None → is_some wanted ≡ false
 no_command None e = refl
-no_command (Some name) e = absurd (cc e)
+no_command (Some command) e = absurd (cc e)
 
-pub a_command : {A : Type 0} (asked : Option (List ℕ)) (name : List ℕ) → asked ≡ Some name → is_some asked ≡ false → A
-a_command None name e f = absurd (cc e)
-a_command (Some other) name e f = absurd (cc f)
+pub a_command : {A : Type 0} (wanted : Option CommandShape) (command : CommandShape) → wanted ≡ Some command → is_some wanted ≡ false → A
+a_command None command e f = absurd (cc e)
+a_command (Some other) command e f = absurd (cc f)
 
-pub asked_none : (asked : Option (List ℕ)) (why : WordsError) → why ≡ words.Words → AsksFor asked (Err why) → asked ≡ None
-asked_none asked why same refused = subst (λ w. AsksFor asked (Err w)) same refused
+pub asked_none : (wanted : Option CommandShape) (why : WordsError) → why ≡ words.Words → AsksFor wanted (Err why) → wanted ≡ None
+asked_none wanted why same refused = subst (λ w. AsksFor wanted (Err w)) same refused
 
-pub words_verdict : (told : Option Files) (words : List (List ℕ)) → asked_file words ≡ None → IsVerdict told words Words
+pub words_verdict : (told : Option Files) (words : List (List ℕ)) → asked words ≡ None → IsVerdict told words Words
 words_verdict told words wrong = let some = any_files told in (some.0, some.1, ap (verdict_on some.0) wrong)
 
-pub absent_verdict : (told : Option Files) (words : List (List ℕ)) (name : List ℕ) → asked_file words ≡ Some name → IsInput told name (Err input.Absent) → IsVerdict told words FileAbsent
-absent_verdict told words name asked absent = (absent.0, absent.1, ap (verdict_on absent.0) asked ∙ ap output_of absent.2)
+pub absent_verdict : (told : Option Files) (words : List (List ℕ)) (command : CommandShape) → asked words ≡ Some command → IsInput told (name_of command.source) (Err input.Absent) → IsVerdict told words FileAbsent
+absent_verdict told words command same absent = (absent.0, absent.1, ap (verdict_on absent.0) same ∙ ap (output_of command) absent.2)
 
-pub limit_verdict : (told : Option Files) (words : List (List ℕ)) (name : List ℕ) → asked_file words ≡ Some name → IsInput told name (Err input.Limit) → IsVerdict told words (Limit Bytes)
-limit_verdict told words name asked over = (over.0, over.1, ap (verdict_on over.0) asked ∙ ap output_of over.2)
+pub limit_verdict : (told : Option Files) (words : List (List ℕ)) (command : CommandShape) → asked words ≡ Some command → IsInput told (name_of command.source) (Err input.Limit) → IsVerdict told words (Limit Bytes)
+limit_verdict told words command same over = (over.0, over.1, ap (verdict_on over.0) same ∙ ap (output_of command) over.2)
 
 -- what is made of the text that was read
-pub text_verdict : (told : Option Files) (words : List (List ℕ)) (name : List ℕ) (text : Vec ℕ Global) (stated : Result (List ℕ) Refusal) → asked_file words ≡ Some name → IsInput told name (Ok text) → processed text.items ≡ stated → (files : Files) × AreFiles told files × (verdict words files ≡ stated)
-text_verdict told words name text stated asked read same = (read.0, read.1, ap (verdict_on read.0) asked ∙ ap output_of read.2 ∙ same)
+pub text_verdict : (told : Option Files) (words : List (List ℕ)) (command : CommandShape) (text : Vec ℕ Global) (stated : Result (List ℕ) Refusal) → asked words ≡ Some command → IsInput told (name_of command.source) (Ok text) → processed command.transform command.output text.items ≡ stated → (files : Files) × AreFiles told files × (verdict words files ≡ stated)
+text_verdict told words command text stated made read same = (read.0, read.1, ap (verdict_on read.0) made ∙ ap (output_of command) read.2 ∙ same)
 
 -- a refusal that is the verdict
 pub run_refused : (T : Type 0) (told : Option Files) (words : List (List ℕ)) (out : Option (List ℕ)) (refusal : Refusal) → IsVerdict told words refusal → IsRun {T = T} told words out out (Err refusal)

@@ -1,6 +1,8 @@
 pub mod Again
 pub mod Answer
+pub mod Asked
 pub mod Causes
+pub mod Counts
 pub mod Headline
 pub mod Places
 pub mod Processed

@@ -1,18 +1,19 @@
 ghost use Rattle.std.specs.Prelude.{◌≡◌, ◌≢◌, ◌⊎◌, ◌<◌, ◌≤◌, length, map, string_bytes, option_map, true, false, IfOk, IsErrOf};
 ghost use Rattle.mlir_streams.specs.Shelves.{Files};
 ghost use Rattle.mlir_opt.specs.Again.{ReadsAgain};
-ghost use Rattle.mlir_words.specs.Request.{request_shape, source_shape};
-ghost use Rattle.mlir_opt.specs.Answer.{answer, asked_file, built_file, is_command, name_of};
+ghost use Rattle.mlir_opt.specs.Answer.{answer};
+ghost use Rattle.mlir_opt.specs.Asked.{asked, is_command};
 ghost use Rattle.mlir_opt.specs.Causes.{RunCause};
 ghost use Rattle.mlir_opt.specs.Headline.{AnswersWhereTold, ExactLineWhereTold, PrefixWhereTold, AddsNoneOrSomeLine, AnswersForSome, IsTold};
-ghost use Rattle.mlir_opt.specs.Steps.{AsksFor, IsInput, InputCause, InputAbsence, IsRun, ReadFaultCause, WriteFaultCause};
+ghost use Rattle.mlir_opt.specs.Steps.{IsInput, InputCause, InputAbsence, ReadsFrom, ReadsOnly, IsRun, ReadFaultCause, WriteFaultCause};
 
 use crate::processing::process;
 use crate::refusal::{FileError, status};
+use crate::request::{asked, name_of};
 use crate::{Refusal, TextError};
 use mlir_base::Which;
 use mlir_streams::{FetchError, OpenError, Shelf, Sink, WriteError, read_whole, write_whole};
-use mlir_words::{Request, Source, Task, WordsError, read_words};
+use mlir_words::WordsError;
 use std::alloc::Global;
 
 /// How many bytes a text may have.
@@ -22,6 +23,7 @@ const LIMIT: usize = 4_194_304;
 fn read_input<S: Shelf>(alloc: Global, shelf: &mut S, name: &str) -> Result<Vec<u8>, FileError>
     ensures stated { IsInput (S.files shelf.old) name.now result }
     ensures within { IfOk result (λ text. length text.items ≤ 4194304) }
+    ensures taken { ReadsFrom (S.files shelf.old) name.now (S.left shelf.old) (S.left shelf.new) }
     ensures same_files { S.files shelf.new ≡ S.files shelf.old }
     ensures cause { InputCause (S.faults shelf.old) (S.faults shelf.new) result }
     ensures later { S.faults shelf.old ≤ S.faults shelf.new }
@@ -43,53 +45,6 @@ fn read_input<S: Shelf>(alloc: Global, shelf: &mut S, name: &str) -> Result<Vec<
     }
 }
 
-// The name of the file.
-fn name_of<'a>(file: Source<'a>) -> &'a str
-    ensures { result.now ≡ name_of (source_shape file.entry) }
-{
-    match file {
-        Source::StandardInput => "",
-        Source::File(name) => name,
-    }
-}
-
-// The file of a request that is built: a module that is printed.
-fn built_file<'a>(request: Request<'a>) -> Option<&'a str>
-    ensures { option_map (λ s. s.now) result ≡ built_file (request_shape request.entry) }
-{
-    match request {
-        Request::Sample { k: _ } => None,
-        Request::Module {
-            file,
-            transform,
-            task,
-        } => match task {
-            Task::Print => { if transform { None } else { Some(name_of(file)) } }
-            Task::Lower { function: _ } => None,
-            Task::Run {
-                function: _,
-                input: _,
-                workers: _,
-            } => None,
-        },
-    }
-}
-
-// The file that the words ask for.
-#[tactic(auto, unfolding(crate::specs::Answer::asked_file))]
-fn asked_file<'a>(alloc: Global, words: &'a [String]) -> Result<&'a str, WordsError>
-    ensures { AsksFor (asked_file (map string_bytes words.now)) result }
-{
-    match read_words(alloc, words) {
-        Ok(request) => match built_file(request) {
-            Some(name) => Ok(name),
-            None => Err(WordsError::Words),
-        },
-        Err(WordsError::Words) => Err(WordsError::Words),
-        Err(WordsError::Memory) => Err(WordsError::Memory),
-    }
-}
-
 // Does all that the words ask for, and writes the output last.
 fn run<S: Shelf, O: Sink>(
     alloc: Global,
@@ -100,25 +55,30 @@ fn run<S: Shelf, O: Sink>(
     ensures stated { IsRun (S.files shelf.old) (map string_bytes words.now)
         (O.written out.old) (O.written out.new) result }
     ensures cause { RunCause result (map string_bytes words.now) (S.files shelf.old)
-        (S.faults shelf.old) (S.faults shelf.new) (O.faults out.old) (O.faults out.new)
-        (S.absences shelf.old) (S.absences shelf.new) }
+        (record {
+          read_faults = (S.faults shelf.old, S.faults shelf.new);
+          write_faults = (O.faults out.old, O.faults out.new);
+          absent_files = (S.absences shelf.old, S.absences shelf.new);
+        }) }
+    ensures taken { ReadsOnly (asked (map string_bytes words.now)) (S.files shelf.old)
+        (S.left shelf.old) (S.left shelf.new) }
     ensures words { is_command (map string_bytes words.now) ≡ false
         → IsErrOf result Refusal.Words ⊎ IsErrOf result Refusal.Memory }
     ensures command { is_command (map string_bytes words.now) ≡ true
         → IsErrOf result Refusal.Words → ⊥ }
-    ensures read_cause { ReadFaultCause (S.faults shelf.old) (S.faults shelf.new) result }
-    ensures write_cause { WriteFaultCause (O.faults out.old) (O.faults out.new) result }
+    ensures read_cause { ReadFaultCause (S.faults shelf.old, S.faults shelf.new) result }
+    ensures write_cause { WriteFaultCause (O.faults out.old, O.faults out.new) result }
     ensures same_files { S.files shelf.new ≡ S.files shelf.old }
     ensures absences_later { S.absences shelf.old ≤ S.absences shelf.new }
     ensures later { S.faults shelf.old ≤ S.faults shelf.new }
     ensures out_later { O.faults out.old ≤ O.faults out.new }
 {
-    let name = match asked_file(alloc, words) {
-        Ok(name) => name,
+    let command = match asked(alloc, words) {
+        Ok(command) => command,
         Err(WordsError::Words) => return Err(Refusal::Words),
         Err(WordsError::Memory) => return Err(Refusal::Memory),
     };
-    let text = match read_input(alloc, shelf, name) {
+    let text = match read_input(alloc, shelf, name_of(command.source)) {
         Ok(text) => text,
         Err(FileError::Absent) => return Err(Refusal::FileAbsent),
         Err(FileError::Failed) => return Err(Refusal::ReadFailed),
@@ -127,7 +87,7 @@ fn run<S: Shelf, O: Sink>(
         }),
         Err(FileError::Memory) => return Err(Refusal::Memory),
     };
-    let output = match process(alloc, &text) {
+    let output = match process(alloc, &text, command.transform, command.output) {
         Ok(output) => output,
         Err(TextError::Limit { which }) => return Err(Refusal::Limit { which }),
         Err(
@@ -144,6 +104,8 @@ fn run<S: Shelf, O: Sink>(
             });
         }
         Err(TextError::Verify { rule, op }) => return Err(Refusal::Verify { rule, op }),
+        Err(TextError::NoScript) => return Err(Refusal::NoScript),
+        Err(TextError::Step { step, why }) => return Err(Refusal::Step { step, why }),
         Err(TextError::Memory) => return Err(Refusal::Memory),
     };
     match write_whole(out, &output) {
@@ -183,12 +145,20 @@ pub fn mlir_opt<S: Shelf, O: Sink, E: Sink>(
     // Where the shelf tells its files, and no call on it or on `out` failed, the status and the
     // bytes are the answer's, or memory was wanting.
     ensures answer { AnswersWhereTold (S.files shelf.old) (map string_bytes words.now)
-        (S.faults shelf.old) (S.faults shelf.new) (O.faults out.old) (O.faults out.new)
+        (record {
+          read_faults = (S.faults shelf.old, S.faults shelf.new);
+          write_faults = (O.faults out.old, O.faults out.new);
+          absent_files = (S.absences shelf.old, S.absences shelf.new);
+        })
         (O.written out.old) (O.written out.new) result }
 
     // Unless memory was wanting, the line is the answer's, or that of a fault.
     ensures exact_line { ExactLineWhereTold (S.files shelf.old) (map string_bytes words.now)
-        (S.faults shelf.old) (S.faults shelf.new) (O.faults out.old) (O.faults out.new)
+        (record {
+          read_faults = (S.faults shelf.old, S.faults shelf.new);
+          write_faults = (O.faults out.old, O.faults out.new);
+          absent_files = (S.absences shelf.old, S.absences shelf.new);
+        })
         (E.written err.old) (E.written err.new) (E.faults err.old) (E.faults err.new) result }
 
     // However the call ended, what was written is a prefix of the stated bytes.
@@ -198,18 +168,31 @@ pub fn mlir_opt<S: Shelf, O: Sink, E: Sink>(
     // In every call one line at most is added to `err`, a prefix of that of a refusal, which has
     // the status and its cause.
     ensures line { AddsNoneOrSomeLine (map string_bytes words.now) (S.files shelf.old)
-        (S.faults shelf.old) (S.faults shelf.new) (O.faults out.old) (O.faults out.new)
-        (S.absences shelf.old) (S.absences shelf.new)
+        (record {
+          read_faults = (S.faults shelf.old, S.faults shelf.new);
+          write_faults = (O.faults out.old, O.faults out.new);
+          absent_files = (S.absences shelf.old, S.absences shelf.new);
+        })
         (E.written err.old) (E.written err.new) result }
 
     // A shelf that tells nothing is answered as some that tells its files.
     ensures some_files { AnswersForSome (S.files shelf.old) (map string_bytes words.now)
-        (S.faults shelf.old) (S.faults shelf.new) (O.faults out.old) (O.faults out.new)
+        (record {
+          read_faults = (S.faults shelf.old, S.faults shelf.new);
+          write_faults = (O.faults out.old, O.faults out.new);
+          absent_files = (S.absences shelf.old, S.absences shelf.new);
+        })
         (O.written out.old) (O.written out.new) result }
 
-    // What is stated under status 0 is read again as the file that was read, whose module verifies.
+    // What is stated under status 0 is read again: it stands for a file whose module verifies, and
+    // each function gives on all inputs of its types exactly the original's tensors or its trap.
     ensures again { (files : Files) → (answer (map string_bytes words.now) files).status ≡ 0
         → ReadsAgain (map string_bytes words.now) files }
+
+    // The one file that is read is the one that the words ask for. Where the shelf tells its files,
+    // at most 4,194,305 bytes of it are taken.
+    ensures taken { ReadsOnly (asked (map string_bytes words.now)) (S.files shelf.old)
+        (S.left shelf.old) (S.left shelf.new) }
 
     // A fault is never passed over.
     ensures fault { (S.faults shelf.old < S.faults shelf.new)

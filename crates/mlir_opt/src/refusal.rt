@@ -1,8 +1,9 @@
 ghost use Rattle.std.specs.Prelude.{◌≡◌, Some};
-ghost use Rattle.mlir_opt.specs.Refusals.{fault_word, limit_word, message_of, rule_word, status_of};
+ghost use Rattle.mlir_opt.specs.Refusals.{fault_word, limit_word, message_of, rule_word, status_of, step_rule_word};
 
 use mlir_base::Which;
 use mlir_verify::Rule;
+use rewrite_base::StepRule;
 use std::fmt;
 
 /// What is wrong in a text at a place.
@@ -24,6 +25,17 @@ pub enum Fault {
     TypeDiffers,
     /// A number out of its range.
     Number,
+}
+
+/// Why a step of a script isn't applied.
+#[derive(Clone, Copy, Drop)]
+pub enum StepFault {
+    /// It isn't built yet.
+    Unsupported,
+    /// A rule of the step is broken.
+    Rule(StepRule),
+    /// A limit is passed.
+    Limit(Which),
 }
 
 /// Why there is no output. Its `Display` is the line on `err`, without the line feed.
@@ -49,6 +61,13 @@ pub enum Refusal {
     Verify {
         rule: Rule,
         op: u32,
+    },
+    /// A script is to be applied, and the file has none.
+    NoScript,
+    /// A step of the script isn't applied. It is told by its number from 1.
+    Step {
+        step: u32,
+        why: StepFault,
     },
     /// A write failed, or took no byte.
     WriteFailed,
@@ -86,6 +105,13 @@ pub enum TextError {
     Verify {
         rule: Rule,
         op: u32,
+    },
+    /// As [`Refusal::NoScript`].
+    NoScript,
+    /// As [`Refusal::Step`].
+    Step {
+        step: u32,
+        why: StepFault,
     },
     /// There is no memory.
     Memory,
@@ -152,6 +178,39 @@ fn rule_text(rule: Rule) -> &'static str
     }
 }
 
+/// The name of a step's rule in its line.
+fn step_rule_text(rule: StepRule) -> &'static str
+    ensures { result.now ≡ step_rule_word rule }
+{
+    match rule {
+        StepRule::HandleDead => "handle-dead",
+        StepRule::HandleCount => "handle-count",
+        StepRule::WrongKind => "wrong-kind",
+        StepRule::ResultCount => "result-count",
+        StepRule::SizeCount => "size-count",
+        StepRule::Permutation => "permutation",
+        StepRule::ReductionOrder => "reduction-order",
+        StepRule::ReductionCombiner => "reduction-combiner",
+        StepRule::ReductionForall => "reduction-forall",
+        StepRule::NoLoop => "no-loop",
+        StepRule::EmptyWindow => "empty-window",
+        StepRule::Inside => "inside",
+        StepRule::NotUsedInside => "not-used-inside",
+        StepRule::Cover => "cover",
+        StepRule::MayTrap => "may-trap",
+        StepRule::PadDims => "pad-dims",
+        StepRule::PadValues => "pad-values",
+        StepRule::PadWindow => "pad-window",
+        StepRule::PadNeutral => "pad-neutral",
+        StepRule::PackWindow => "pack-window",
+        StepRule::PackIndex => "pack-index",
+        StepRule::PackDynamic => "pack-dynamic",
+        StepRule::VectorSize => "vector-size",
+        StepRule::VectorMap => "vector-map",
+        StepRule::VectorIndex => "vector-index",
+    }
+}
+
 impl fmt::Display for Refusal {
     ghost output = { λ r. Some (message_of r) };
 
@@ -176,6 +235,21 @@ impl fmt::Display for Refusal {
                 let name = rule_text(*rule);
                 write!(f, "error: verify {name} at {op}")
             }
+            Refusal::NoScript => f.write_str("error: no script"),
+            Refusal::Step { step, why } => match why {
+                StepFault::Unsupported => {
+                    let word = fault_text(Fault::Unsupported);
+                    write!(f, "error: step {step} {word}")
+                }
+                StepFault::Rule(rule) => {
+                    let name = step_rule_text(*rule);
+                    write!(f, "error: step {step} {name}")
+                }
+                StepFault::Limit(which) => {
+                    let word = limit_text(*which);
+                    write!(f, "error: step {step} limit {word}")
+                }
+            },
             Refusal::WriteFailed => f.write_str("error: write failed"),
             Refusal::Memory => f.write_str("error: memory"),
         }
@@ -188,6 +262,7 @@ pub fn status(refusal: Refusal) -> u8
 {
     match refusal {
         Refusal::Limit { .. } | Refusal::Text { .. } | Refusal::Verify { .. } => 1,
+        Refusal::NoScript | Refusal::Step { .. } => 1,
         Refusal::Words => 2,
         Refusal::FileAbsent | Refusal::ReadFailed | Refusal::WriteFailed => 3,
         Refusal::Memory => 4,

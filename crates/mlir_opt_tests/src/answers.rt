@@ -75,6 +75,18 @@ pub fn wrong_rows(
     short: &str,
     behind: &str,
 ) -> Result<String, AllocError> {
+    wrong_rows_under(alloc, &[], rows, before, short, behind)
+}
+
+/// The same under these words.
+pub fn wrong_rows_under(
+    alloc: Global,
+    given: &[&str],
+    rows: &str,
+    before: &str,
+    short: &str,
+    behind: &str,
+) -> Result<String, AllocError> {
     let mut wrong = String::new(alloc);
     for row in rows.lines() {
         let (want, inside) = row.split_once('|').unwrap_or((row, ""));
@@ -86,7 +98,7 @@ pub fn wrong_rows(
             text.push_str(part)?;
         }
         text.push_str(behind)?;
-        let found = answer(alloc, "", text.as_str(), &[], 1)?;
+        let found = answer(alloc, "", text.as_str(), given, 1)?;
         if !is_wanted(alloc, want, found.as_str())? {
             wrong.push_str(row)?;
             wrong.push_str("\nis answered ")?;

@@ -16,4 +16,6 @@ mod scripts;
 #[cfg(test)]
 mod streams;
 #[cfg(test)]
+mod transformed;
+#[cfg(test)]
 mod verified;

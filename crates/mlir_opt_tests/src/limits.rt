@@ -5,8 +5,8 @@ use crate::printed::WRITTEN;
 use std::alloc::{AllocError, Global};
 use std::test::Fail;
 
-/// The text of a template, whose every second part between `|` stands so often, with its number for a `~`.
-fn repeated(alloc: Global, count: u32, template: &str) -> Result<String, AllocError> {
+/// The text of a template, whose every second part between `|` stands so often, with its number for each `~`.
+pub fn repeated(alloc: Global, count: u32, template: &str) -> Result<String, AllocError> {
     let mut text = String::new(alloc);
     for (place, part) in template.split('|').enumerate() {
         if place % 2 == 0 {
@@ -14,12 +14,12 @@ fn repeated(alloc: Global, count: u32, template: &str) -> Result<String, AllocEr
             continue;
         }
         for number in 0..count {
-            match part.split_once('~') {
-                None => text.push_str(part)?,
-                Some((before, behind)) => {
-                    let numbered = format!(in alloc; "{before}{number}{behind}")?;
-                    text.push_str(numbered.as_str())?;
+            for (gap, piece) in part.split('~').enumerate() {
+                if gap > 0 {
+                    let digits = format!(in alloc; "{number}")?;
+                    text.push_str(digits.as_str())?;
                 }
+                text.push_str(piece)?;
             }
         }
     }

@@ -1,5 +1,5 @@
 //! Tests of steps and of what they stand on, of what no clause says: that a module can be copied, that handles can be defined,
-//! matched and consumed, that named operations have their generics, and that the steps answer.
+//! matched and consumed, that named operations have their generics, that the steps answer, and that scripts run.
 #![tactic(auto)]
 
 #[cfg(test)]
@@ -8,5 +8,7 @@ mod copies;
 mod forms;
 #[cfg(test)]
 mod handles;
+#[cfg(test)]
+mod scripts;
 #[cfg(test)]
 mod steps;

@@ -1,0 +1,9 @@
+pub mod Named
+pub mod Bodies
+pub mod Matched
+pub mod Kept
+pub mod Stepping
+pub mod Running
+pub mod Meanings
+pub mod Built
+pub mod Agreeing
