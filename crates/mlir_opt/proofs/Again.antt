@@ -1,5 +1,5 @@
 -- What is written is read again.
-use Rattle.std.proofs.Common.{◌≡◌, ◌∙◌, ℕ, ◌<◌, Bool, true, false, cond, List, [], ◌∷◌, length, nat_lt, lt-ltb, arith, Option, Some, None, Result, Ok, Err, refl, sym, ap, subst}
+use Rattle.std.proofs.Common.{◌≡◌, ◌∙◌, ℕ, Bool, true, false, cond, List, [], ◌∷◌, length, nat_lt, lt-ltb, arith, Option, Some, None, Result, Ok, Err, refl, sym, ap, subst}
 use Rattle.std.specs.List.{list_all}
 use Rattle.mlir_file.specs.declared.file.File.{File}
 use Rattle.mlir_ir.specs.Shape.{FuncShape}
@@ -12,8 +12,7 @@ use Rattle.mlir_print.specs.Canonical.{text_of}
 use Rattle.mlir_print.specs.Names.{Names}
 use Rattle.mlir_read.specs.Reading.{StandsFor, reading}
 use Rattle.mlir_read.proofs.Whole.{found_in}
-use Rattle.mlir_roundtrip.specs.Printable.{IsPrintable, IsPrintableFunc, ArePrintable, ArePrintableOps}
-use Rattle.mlir_roundtrip.proofs.Functions.{FileRead}
+use Rattle.mlir_roundtrip.specs.Printable.{ArePrintable, ArePrintableOps}
 use Rattle.mlir_roundtrip.proofs.Laws.{reads_back, read_is_printable, canonical_stands}
 use Rattle.mlir_streams.specs.Shelves.{Files}
 use Rattle.mlir_roundtrip.specs.Numbered.{renumbered}

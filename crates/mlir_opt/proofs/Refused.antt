@@ -1,5 +1,5 @@
 -- From one step of the processing to the next.
-use Rattle.std.proofs.Common.{◌≡◌, ◌∙◌, ℕ, List, Option, Result, Ok, Err, ap}
+use Rattle.std.proofs.Common.{◌≡◌, ◌∙◌, ℕ, Option, Result, Err, ap}
 use Rattle.mlir_ir.specs.declared.tree.Module.{Module}
 use Rattle.rewrite_base.specs.declared.error.StepError.{StepError}
 use Rattle.rewrite_base.specs.declared.error.StepError.TheVariants as why

@@ -1,5 +1,5 @@
 -- What is written is read again: it stands for a file whose module verifies, and whose functions give what they gave.
-use Rattle.std.specs.Prelude.{◌≡◌, ℕ, List, Bool, true, false, Option, Some, Ok}
+use Rattle.std.specs.Prelude.{◌≡◌, ℕ, List, Bool, true, false, Some, Ok}
 use Rattle.mlir_file.specs.declared.file.File.{File}
 use Rattle.mlir_ir.specs.declared.tree.Module.{Module}
 use Rattle.mlir_read.specs.Reading.{StandsFor}

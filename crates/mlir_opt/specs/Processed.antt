@@ -17,7 +17,6 @@ use Rattle.script_run.specs.Scripts.{run, unbuilt_from}
 use Rattle.mlir_opt.specs.Places.{line_after, column_after}
 use Rattle.mlir_opt.specs.declared.refusal.Fault.{Fault}
 use Rattle.mlir_opt.specs.declared.refusal.Fault.TheVariants as faults
-use Rattle.mlir_opt.specs.declared.refusal.StepFault.{StepFault}
 use Rattle.mlir_opt.specs.declared.refusal.StepFault.TheVariants as steps
 use Rattle.mlir_opt.specs.declared.refusal.Refusal.{Refusal}
 use Rattle.mlir_opt.specs.declared.refusal.Refusal.TheVariants.{Limit, Text, Verify, NoScript, Step, Memory}

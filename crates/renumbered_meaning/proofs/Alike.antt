@@ -2,7 +2,7 @@
 use Rattle.std.proofs.Common.{◌≡◌, List, [], ◌∷◌, refl}
 use Rattle.mlir_ir.specs.declared.tree.Op.{Op}
 use Rattle.mlir_meaning.specs.Meaning.{kind_meaning, run}
-use Rattle.mlir_meaning.specs.States.{State, Outcome, then_goes}
+use Rattle.mlir_meaning.specs.States.{State, then_goes}
 
 -- the same results and kinds, one by one
 abbrev pub AreAlike : List Op → List Op → Type 0

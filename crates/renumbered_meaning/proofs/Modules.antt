@@ -1,33 +1,26 @@
 -- The functions of a verified module under the numbers of its text.
-use Rattle.std.proofs.Common.{◌≡◌, inr, ℕ, ◌+◌, ◌<◌, suc, ◌&&◌, Bool, true, false, List, [], ◌∷◌, ◌++◌, length, refl, ap, sym, subst, ◌∙◌, arith, append_assoc, append-nil}
-use Rattle.std.specs.List.{list_all, flat_map}
-use Rattle.affine_maps.specs.Permutation.{is_among}
-use Rattle.mlir_file.specs.declared.file.File.{File}
+use Rattle.std.proofs.Common.{◌≡◌, inr, ℕ, ◌+◌, suc, Bool, true, false, List, [], ◌∷◌, ◌++◌, length, refl, ap, sym, ◌∙◌, arith, append_assoc, append-nil}
+use Rattle.std.specs.List.{flat_map}
 use Rattle.mlir_ir.specs.Shape.{FuncShape, TensorShape}
 use Rattle.mlir_ir.specs.Count.{operands}
 use Rattle.mlir_ir.specs.declared.tree.Op.{Op}
 use Rattle.mlir_ir.specs.declared.tree.OpKind.{OpKind, For', Forall'}
-use Rattle.mlir_ir.specs.declared.tree.Ty.{Ty}
-use Rattle.mlir_ir.specs.declared.tree.ValueId.{ValueId}
 use Rattle.mlir_meaning.specs.Grids.{Each}
-use Rattle.mlir_meaning.specs.Meaning.{answer_of, initial_state, meaning, run}
-use Rattle.mlir_meaning.specs.Names.{AreIn, OpsReadOnly, OpsDefineOnly, ReadsOnly, NamesOnly}
-use Rattle.mlir_meaning.specs.Renaming.{renamed_ops, renamed_func, defined}
+use Rattle.mlir_meaning.specs.Meaning.{answer_of, initial_state, meaning}
+use Rattle.mlir_meaning.specs.Names.{AreIn, OpsReadOnly, OpsDefineOnly, ReadsOnly}
+use Rattle.mlir_meaning.specs.Renaming.{renamed_ops, defined}
 use Rattle.mlir_meaning.specs.States.{names_of}
 use Rattle.mlir_meaning.proofs.Renamed.{renaming_keeps}
 use Rattle.mlir_print.specs.Canonical.{names_in, after_params}
 use Rattle.mlir_print.specs.declared.names.Given.TheVariants.{Argument}
-use Rattle.mlir_print.specs.Names.{Names, Row, row_of, nothing, with_argument}
-use Rattle.mlir_print.specs.Operations.{next}
+use Rattle.mlir_print.specs.Names.{Names, row_of, nothing, with_argument}
 use Rattle.mlir_print.specs.Renumbered.{results_renumbered, ops_renumbered, func_renumbered, funcs_renumbered, values_in}
-use Rattle.mlir_roundtrip.specs.Printable.{IsPrintable, IsPrintableFunc, ArePrintable}
+use Rattle.mlir_roundtrip.specs.Printable.{IsPrintableFunc, ArePrintable}
 use Rattle.mlir_verify.specs.Built.{is_built_kind}
 use Rattle.mlir_verify.specs.Names.{numbers, defined_by, defined_in, redefines}
-use Rattle.mlir_verify.specs.Rules.{IsVerified}
 use Rattle.verified_runs.specs.Passes.{Scope, BodyPasses, FuncPasses}
-use Rattle.verified_runs.specs.Typed.{AreOf, types_of}
+use Rattle.verified_runs.specs.Typed.{types_of}
 use Rattle.verified_runs.proofs.Places.{built_kind, defines_none}
-use Rattle.step_results.specs.Modules.{ModulePasses}
 use Rattle.step_results.proofs.Modules.{verified_module}
 use Rattle.step_results.proofs.Numbers.{among_left, among_right, own_parts, still_own}
 use Rattle.renumbered_meaning.specs.Laws.{MeansTheSame, MeanTheSame, RenumberedMeans}

@@ -1,31 +1,28 @@
 -- A function under the numbers of its text is one whose values are renamed.
-use Rattle.std.proofs.Common.{◌≡◌, ◌⊎◌, inl, inr, ℕ, ◌+◌, ◌<◌, ◌≤◌, ◌==◌, ◌||◌, ◌&&◌, suc, Bool, true, false, List, [], ◌∷◌, ◌++◌, length, map, Option, Some, None, refl, ap, sym, subst, ◌∙◌, arith, append_assoc, append-nil, length-append}
+use Rattle.std.proofs.Common.{◌≡◌, ◌⊎◌, inl, inr, ℕ, ◌+◌, ◌==◌, ◌||◌, suc, Bool, true, false, List, [], ◌∷◌, ◌++◌, length, map, Option, Some, None, refl, ap, sym, subst, ◌∙◌, arith, append_assoc, append-nil, length-append}
 use Rattle.std.specs.Prelude.{unwrap_or, is_some, if◌then◌else◌}
-use Rattle.std.specs.List.{list_all, flat_map}
+use Rattle.std.specs.List.{flat_map}
 use Rattle.std.proofs.lemmas.Bool.{and_parts, eq-eqb}
 use Rattle.affine_maps.specs.Permutation.{is_among}
 use Rattle.mlir_ir.specs.Count.{first, operands}
-use Rattle.mlir_ir.specs.Shape.{FuncShape, TensorShape}
 use Rattle.mlir_ir.specs.declared.tree.Op.{Op}
 use Rattle.mlir_ir.specs.declared.tree.OpKind.{OpKind, Constant, Empty, Generic, Fill, Matmul, BatchMatmul, Transpose, Broadcast, Return}
 use Rattle.mlir_ir.specs.declared.tree.Ty.{Ty}
 use Rattle.mlir_ir.specs.declared.tree.ValueId.{ValueId}
 use Rattle.mlir_meaning.specs.Grids.{Each}
-use Rattle.mlir_meaning.specs.Meaning.{answer_of, initial_state, meaning, run}
-use Rattle.mlir_meaning.specs.Names.{AreIn, OpsReadOnly, OpsDefineOnly, ReadsOnly, DefinesOnly, NamesOnly}
-use Rattle.mlir_meaning.specs.Renaming.{value, values, defined, renamed, renamed_op, renamed_ops, renamed_func}
+use Rattle.mlir_meaning.specs.Names.{AreIn}
+use Rattle.mlir_meaning.specs.Renaming.{value, values, defined, renamed, renamed_ops}
 use Rattle.mlir_meaning.specs.States.{names_of}
 use Rattle.mlir_meaning.proofs.Through.{each_left, each_right}
-use Rattle.mlir_print.specs.Canonical.{names_in, after_params, after_ops}
-use Rattle.mlir_print.specs.Names.{Names, Row, spot, row_of, nothing, with_argument}
+use Rattle.mlir_print.specs.Names.{Names, Row, spot}
 use Rattle.mlir_print.specs.Operations.{names_after, next}
-use Rattle.mlir_print.specs.Renumbered.{number_in, kind_renumbered, results_renumbered, op_renumbered, ops_renumbered, func_renumbered}
-use Rattle.mlir_roundtrip.specs.Printable.{IsPrintableLine, ArePrintableOps, IsPrintableFunc}
+use Rattle.mlir_print.specs.Renumbered.{number_in, kind_renumbered, results_renumbered, ops_renumbered}
+use Rattle.mlir_roundtrip.specs.Printable.{IsPrintableLine, ArePrintableOps}
 use Rattle.mlir_verify.specs.Built.{is_built_kind}
 use Rattle.mlir_verify.specs.Names.{numbers, in_scope, arguments, defined_by, redefines}
-use Rattle.mlir_verify.specs.Place.{Types, type_among}
-use Rattle.verified_runs.specs.Passes.{Scope, OpPasses, BodyPasses, FuncPasses}
-use Rattle.verified_runs.proofs.Places.{built_kind, defines_none}
+use Rattle.mlir_verify.specs.Place.{type_among}
+use Rattle.verified_runs.specs.Passes.{Scope, BodyPasses}
+use Rattle.verified_runs.proofs.Places.{built_kind}
 use Rattle.verified_runs.proofs.ReusedBodies.{or_false}
 use Rattle.step_results.proofs.Numbers.{among_append, among_left, among_right, known_absent, own_parts}
 use Rattle.step_results.proofs.Small.{no_arguments}
