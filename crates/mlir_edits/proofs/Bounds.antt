@@ -1,6 +1,6 @@
 -- A place of a module lies within its functions and their bodies, and a function that is put back stands where it stood.
-use Rattle.std.proofs.Common.{◌≡◌, ◌<◌, ◌+◌, ℕ, zero, suc, true, List, [], ◌∷◌, ◌++◌, length, take, drop, get_or, Option, Some, None, refl, sym, ap, ◌∙◌, arith}
-use Rattle.std.specs.Prelude.{is_some, option_and_then, slice_get, insert, remove}
+use Rattle.std.proofs.Common.{◌≡◌, ◌<◌, ◌+◌, ℕ, zero, suc, true, List, [], ◌∷◌, ◌++◌, length, take, drop, get_or, Option, Some, None, refl, sym, ap, subst, ◌∙◌, arith}
+use Rattle.std.specs.Prelude.{is_some, IfSome, option_and_then, slice_get, insert, remove}
 use Rattle.std.proofs.lemmas.List.{take_at, drop_at, length-take-le, length-append}
 use Rattle.std.proofs.lemmas.Option.{slice_get_within, slice_get_read}
 use Rattle.mlir_ir.specs.Shape.{FuncShape}
@@ -10,7 +10,7 @@ use Rattle.mlir_meaning.specs.States.{names_of}
 use Rattle.verified_runs.specs.Edits.{Edit, moved}
 use Rattle.mlir_edits.specs.declared.place.Place.{Place}
 use Rattle.mlir_edits.specs.Places.{op_at}
-use Rattle.mlir_edits.specs.Replaced.{replaced, replaced_func, replaced_among}
+use Rattle.mlir_edits.specs.Replaced.{replaced, replaced_func, replaced_among, leaves_body}
 
 pub func_within : (p : Place) (fs : List FuncShape) → is_some (op_at p fs) ≡ true → p.func < length fs
 func_within p fs h = by (slice_get fs p.func) refl h where
@@ -67,3 +67,15 @@ pub replaced_filled : (os : List Op) (n : ℕ) (e : Edit) → n < length os → 
 replaced_filled [] n e l h = absurd (omega (arith, l))
 replaced_filled (o ∷ os) zero e l h = omega (arith, h, length-append e.ops (reused_ops (moved (names_of o.results) e.values) os))
 replaced_filled (o ∷ os) (suc n) e l h = omega arith
+
+-- an edit with an operation leaves a body
+pub filled_at : (p : Place) (fs : List FuncShape) (e : Edit) → is_some (op_at p fs) ≡ true → 0 < length e.ops → leaves_body p e fs
+filled_at p fs e h l = by (slice_get fs p.func) h where
+  by : (r : Option FuncShape) → is_some (option_and_then (λ (f : FuncShape). slice_get f.body p.op) r) ≡ true → IfSome r (λ (f : FuncShape). 0 < length (replaced p.op e f.body))
+  by None s = absurd cc
+  by (Some f) s = replaced_filled f.body p.op e (some_within f.body p.op (slice_get f.body p.op) refl s) l
+
+-- of the function that stands there
+pub left_at : (p : Place) (fs : List FuncShape) (e : Edit) (f : FuncShape) → p.func < length fs → f ≡ get_or fs p.func f → leaves_body p e fs → 0 < length (replaced p.op e f.body)
+left_at p fs e f l g h =
+    subst (λ (r : Option FuncShape). IfSome r (λ (f : FuncShape). 0 < length (replaced p.op e f.body))) (slice_get_read fs (length fs) p.func f refl l g) h

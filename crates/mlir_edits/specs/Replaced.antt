@@ -1,5 +1,5 @@
 -- An edit at a place: new operations stand for the one that is there, and later uses of its results are renamed.
-use Rattle.std.specs.Prelude.{ℕ, zero, suc, List, [], ◌∷◌, Some}
+use Rattle.std.specs.Prelude.{◌<◌, ℕ, zero, suc, List, [], ◌∷◌, length, Some, IfSome, slice_get}
 use Rattle.mlir_ir.specs.Shape.{FuncShape}
 use Rattle.mlir_ir.specs.declared.tree.Module.{Module}
 use Rattle.mlir_ir.specs.declared.tree.Op.{Op}
@@ -23,3 +23,7 @@ replaced_among (suc n) k e (f ∷ fs) = f ∷ replaced_among n k e fs
 
 abbrev pub replaced_at : Place → Edit → Module → Module
 replaced_at p e m = record { funcs = replaced_among p.func p.op e m.funcs }
+
+-- the body at the place isn't empty after the edit
+abbrev pub leaves_body : Place → Edit → List FuncShape → Type 0
+leaves_body p e fs = IfSome (slice_get fs p.func) (λ f. 0 < length (replaced p.op e f.body))

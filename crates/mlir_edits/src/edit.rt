@@ -3,7 +3,7 @@ ghost use Rattle.mlir_meaning.specs.States.{names_of};
 ghost use Rattle.mlir_meaning.specs.Renaming.{reused_ops};
 ghost use Rattle.verified_runs.specs.Edits.{renumbered, moved};
 ghost use Rattle.mlir_edits.specs.Places.{op_at};
-ghost use Rattle.mlir_edits.specs.Replaced.{replaced, replaced_func, replaced_at};
+ghost use Rattle.mlir_edits.specs.Replaced.{replaced, replaced_func, replaced_at, leaves_body};
 
 use crate::kinds::move_ops;
 use crate::moves::Moves;
@@ -83,7 +83,7 @@ fn replace(
 
 fn replace_in(f: Func, position: usize, new: List<Op>, values: &[ValueId]) -> Result<Func, Memory>
     requires there { position < length f.body }
-    requires new { 0 < length new }
+    requires left { 0 < length (replaced position (record { ops = new; values = values.now }) f.body) }
     ensures { IfOk result (λ g. g ≡ replaced_func position (record { ops = new; values = values.now }) f) }
 {
     let Func {
@@ -101,7 +101,7 @@ fn replace_in(f: Func, position: usize, new: List<Op>, values: &[ValueId]) -> Re
     })
 }
 
-/// The module with new operations, of which there is one or more, in the place of one. Later uses of its results in its body
+/// The module with new operations in the place of one, where its body isn't empty then. Later uses of its results in its body
 /// become uses of `values`, one for each result.
 pub fn replace_at(
     m: Module,
@@ -110,7 +110,7 @@ pub fn replace_at(
     values: &[ValueId],
 ) -> Result<Module, Memory>
     requires there { IsSome (op_at place m.funcs) }
-    requires new { 0 < length new }
+    requires left { leaves_body place (record { ops = new; values = values.now }) m.funcs }
     ensures { IfOk result (λ n. n ≡ replaced_at place (record { ops = new; values = values.now }) m) }
 {
     let mut funcs = m.funcs.into_vec();

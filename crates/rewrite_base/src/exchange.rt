@@ -1,8 +1,9 @@
-ghost use Rattle.std.specs.Prelude.{◌≡◌, ◌<◌, ◌^◌, [], ◌∷◌, List as Sequence, IfOk, IfSome, IsSome};
+ghost use Rattle.std.specs.Prelude.{◌≡◌, ◌<◌, ◌^◌, [], ◌∷◌, length, List as Sequence, IfOk, IfSome, IsSome};
 ghost use Rattle.mlir_ir.specs.declared.tree.Module.{Module as Whole};
 ghost use Rattle.mlir_ir.specs.declared.tree.OpId.{OpId as Number};
 ghost use Rattle.mlir_meaning.specs.States.{names_of};
 ghost use Rattle.mlir_edits.specs.Places.{op_at};
+ghost use Rattle.mlir_edits.specs.Replaced.{replaced_at};
 ghost use Rattle.mlir_verify.specs.Rules.{IsVerified};
 ghost use Rattle.verified_runs.specs.Edits.{renumbered};
 ghost use Rattle.verified_runs.specs.Fresh.{fresh_value, fresh_op};
@@ -47,6 +48,15 @@ fn fresh_results(
     }
 }
 
+/// The module with new operations, of which there is one or more, in the place of one.
+fn put_filled(m: Module, place: Place, new: List<Op>, values: &[ValueId]) -> Result<Module, Memory>
+    requires there { IsSome (op_at place m.funcs) }
+    requires new { 0 < length new }
+    ensures { IfOk result (λ n. n ≡ replaced_at place (record { ops = new; values = values.now }) m) }
+{
+    replace_at(m, place, new, values)
+}
+
 /// The operation at a place anew, of another kind.
 fn exchange(alloc: Global, m: Module, place: Place, kind: OpKind) -> Result<Module, Memory>
     requires there { IsSome (op_at place m.funcs) }
@@ -63,7 +73,7 @@ fn exchange(alloc: Global, m: Module, place: Place, kind: OpKind) -> Result<Modu
         results,
         kind,
     })?;
-    replace_at(m, place, new, values.as_slice())
+    put_filled(m, place, new, values.as_slice())
 }
 
 fn made(alloc: Global, op: OpId) -> Result<Made, Memory>

@@ -2,6 +2,7 @@
 //!
 //! - `generalize` and `interchange` form a module with the step at one operation. The formed module verifies, so that a step
 //!   verifies nothing anew.
+//! - `passed` tells the first limit of its counts that a module passes.
 //! - `StepError` tells why a step refuses, and `Made` which operations stand for its target.
 //!
 //! `specs/Answers.antt` says what a step answers, and `specs/Limits.antt` which limits it may pass. `structured_steps` has the rules
@@ -24,5 +25,6 @@ mod turning;
 pub use error::StepError;
 pub use generalizing::generalize;
 pub use interchanging::interchange;
+pub use limits::passed;
 pub use made::Made;
 pub use structured_steps::StepRule;

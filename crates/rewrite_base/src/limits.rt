@@ -70,7 +70,7 @@ fn has_long_payloads(m: &Module) -> bool
 }
 
 /// The first limit that a module passes.
-pub(crate) fn passed(m: &Module) -> Option<Which>
+pub fn passed(m: &Module) -> Option<Which>
     ensures { result ≡ passed m.now.funcs }
 {
     if has_many_operations(m) {
