@@ -21,8 +21,9 @@ use Rattle.payload_ops.specs.declared.step.PayloadStep.{PayloadStep}
 use Rattle.payload_ops.proofs.StepsLemmas.{steps_values-append}
 use Rattle.payload_ops.proofs.Words.{reduce_same}
 use Rattle.point_laws.proofs.Tables.{get_or-pos}
-use Rattle.region_laws.specs.Moved.{index_step, linear_step}
-use Rattle.fuse_laws.specs.Joined.{numbered_terms, applied, AreSmall}
+use Rattle.payload_forms.specs.Moved.{index_step, linear_step}
+use Rattle.payload_forms.specs.Joined.{numbered_terms, applied}
+use Rattle.fuse_laws.specs.Joined.{AreSmall}
 use Rattle.region_laws.proofs.Moves.{steps_fit-append, type_in, type_new}
 
 -- NUMBERS MODULO 2^64

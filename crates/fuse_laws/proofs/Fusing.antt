@@ -34,7 +34,8 @@ use Rattle.region_laws.proofs.Operands.{weight}
 use Rattle.region_laws.proofs.Extents.{box_is}
 use Rattle.region_laws.proofs.Outputs.{selected_is}
 use Rattle.region_laws.proofs.Inner.{generic_same}
-use Rattle.fuse_laws.specs.Joined.{spliced, expr_at, Meets}
+use Rattle.payload_forms.specs.Joined.{spliced, expr_at}
+use Rattle.fuse_laws.specs.Joined.{Meets}
 use Rattle.fuse_laws.specs.Fused.{pulled, joint, fused, Fuses}
 use Rattle.region_laws.specs.Instances.{Instance, step_of, result_of}
 use Rattle.fuse_laws.proofs.Joining.{joined_gives}

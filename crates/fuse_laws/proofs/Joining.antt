@@ -22,8 +22,9 @@ use Rattle.payload_ops.proofs.Words.{reduce-lt}
 use Rattle.payload_ops.proofs.StepsLemmas.{steps_values-append}
 use Rattle.mlir_meaning.specs.Grids.{count_up, Each}
 use Rattle.point_laws.proofs.Tables.{tabled_at, tabled_length}
-use Rattle.region_laws.specs.Moved.{args_of, captured_step, own_index}
-use Rattle.fuse_laws.specs.Joined.{spliced, other, expr_at, producer_index, Joint, front, producer_to, producer_steps, consumer_to, consumer_steps, joined, IsNotOut, Fit, Meets}
+use Rattle.payload_forms.specs.Moved.{args_of, captured_step, own_index}
+use Rattle.payload_forms.specs.Joined.{spliced, other, expr_at, producer_index, Joint, front, producer_to, producer_steps, consumer_to, consumer_steps, joined}
+use Rattle.fuse_laws.specs.Joined.{IsNotOut, Fit, Meets}
 use Rattle.region_laws.proofs.Moves.{each_then, get_left, Both, steps_fit-append, type_in, type_new}
 use Rattle.region_laws.proofs.Alike.{Typed, Agree, Alike, Supplied, blocks_alike}
 use Rattle.region_laws.proofs.Fronts.{no_step, captured_values, front_run, front_fits, front_at, yields}

@@ -7,7 +7,8 @@ use Rattle.mlir_meaning.specs.Grids.{count_up}
 use Rattle.mlir_meaning.specs.declared.values.Datum.TheVariants.{Cells}
 use Rattle.point_laws.specs.Orders.{turned, is_order}
 use Rattle.region_laws.specs.Operands.{HasBox, maps_of}
-use Rattle.fuse_laws.specs.Joined.{spliced, Joint, joined, Fit}
+use Rattle.payload_forms.specs.Joined.{spliced, Joint, joined}
+use Rattle.fuse_laws.specs.Joined.{Fit}
 use Rattle.region_laws.specs.Instances.{Instance, IsTypedInstance}
 
 -- THE FUSED GENERIC

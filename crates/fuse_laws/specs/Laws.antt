@@ -5,7 +5,8 @@ use Rattle.payload_ops.specs.Payload.{IsPayload}
 use Rattle.payload_ops.specs.Values.{payload_value}
 use Rattle.payload_ops.specs.Shape.{PayloadShape}
 use Rattle.mlir_meaning.specs.Grids.{at, InBox}
-use Rattle.fuse_laws.specs.Joined.{spliced, Joint, joined, Fit, Meets}
+use Rattle.payload_forms.specs.Joined.{spliced, Joint, joined}
+use Rattle.fuse_laws.specs.Joined.{Fit, Meets}
 use Rattle.affine_maps.specs.Shape.{MapShape}
 use Rattle.mlir_meaning.specs.declared.values.Datum.{Datum}
 use Rattle.mlir_meaning.specs.declared.values.Grid.{Grid}

@@ -1,5 +1,5 @@
 -- The captured values of a producer and a consumer stand among those of both.
-use Rattle.std.proofs.Common.{◌≡◌, ℕ, zero, suc, ◌+◌, ◌-◌, ◌<◌, ◌≤◌, ◌==◌, ◌||◌, Bool, true, false, List, [], ◌∷◌, ◌++◌, map, length, get_or, refl, ap, sym, ◌∙◌, arith, eq-eqb, eqb-true}
+use Rattle.std.proofs.Common.{◌≡◌, ℕ, zero, suc, ◌+◌, ◌-◌, ◌<◌, ◌≤◌, ◌==◌, ◌||◌, Bool, true, false, List, [], ◌∷◌, ◌++◌, map, length, get_or, refl, ap, sym, subst, ◌∙◌, arith, eq-eqb, eqb-true}
 use Rattle.std.specs.Prelude.{if◌then◌else◌}
 use Rattle.std.proofs.lemmas.List.{length-map, get_or-map}
 use Rattle.mlir_ir.specs.declared.tree.ValueId.{ValueId}
@@ -69,6 +69,11 @@ each_number P [] i l h = absurd (omega arith)
 each_number P (v ∷ vs) zero l h = h.0
 each_number P (v ∷ vs) (suc i) l h = each_number P vs i (omega arith) h.1
 
+place_is : (all vs : List ValueId) (i : ℕ) → i < length vs → place_in all vs i ≡ place_of (get_or (numbers_of vs) i 0) 0 (numbers_of all)
+place_is all [] i l = absurd (omega arith)
+place_is all (v ∷ vs) zero l = refl
+place_is all (v ∷ vs) (suc i) l = place_is all vs i (omega arith)
+
 module _ (u : State) (all vs : List ValueId) (has : Each (Has all) vs) where
   abbrev value : ℕ → ℕ
   value n = element (u.values n) []
@@ -78,8 +83,15 @@ module _ (u : State) (all vs : List ValueId) (has : Each (Has all) vs) where
   captured_numbers (v ∷ vs) = ap (λ l. value v.0 ∷ l) (captured_numbers vs)
 
   module _ (i : ℕ) (l : i < length vs) where
+    is : place_in all vs i ≡ place_of (get_or (numbers_of vs) i 0) 0 (numbers_of all)
+    is = place_is all vs i l
+
+    standing : (0 ≤ place_of (get_or (numbers_of vs) i 0) 0 (numbers_of all)) × (place_of (get_or (numbers_of vs) i 0) 0 (numbers_of all) < 0 + length (numbers_of all))
+        × (get_or (numbers_of all) (place_of (get_or (numbers_of vs) i 0) 0 (numbers_of all) - 0) 0 ≡ get_or (numbers_of vs) i 0)
+    standing = stands_at (get_or (numbers_of vs) i 0) (numbers_of all) 0 (each_number (λ n. is_among n (numbers_of all) ≡ true) vs i l has)
+
     there : (0 ≤ place_in all vs i) × (place_in all vs i < 0 + length (numbers_of all)) × (get_or (numbers_of all) (place_in all vs i - 0) 0 ≡ get_or (numbers_of vs) i 0)
-    there = stands_at (get_or (numbers_of vs) i 0) (numbers_of all) 0 (each_number (λ n. is_among n (numbers_of all) ≡ true) vs i l has)
+    there = subst (λ k. (0 ≤ k) × (k < 0 + length (numbers_of all)) × (get_or (numbers_of all) (k - 0) 0 ≡ get_or (numbers_of vs) i 0)) (sym is) standing
 
     pub place_below : place_in all vs i < length all
     place_below = omega (arith, there.1, length-map all (λ (v : ValueId). v.0))

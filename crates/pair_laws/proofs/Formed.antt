@@ -28,7 +28,8 @@ use Rattle.mlir_verify.specs.Place.{Types, is_empty}
 use Rattle.mlir_verify.specs.Types.{is_input}
 use Rattle.verified_runs.specs.Forms.{Structured, kind_of}
 use Rattle.verified_runs.specs.Passes.{Scope, OpPasses, BodyPasses, FuncPasses, scope_after}
-use Rattle.fuse_laws.specs.Joined.{spliced, Fit}
+use Rattle.payload_forms.specs.Joined.{spliced}
+use Rattle.fuse_laws.specs.Joined.{Fit}
 use Rattle.fuse_laws.specs.Fused.{joint}
 use Rattle.fuse_laws.proofs.Fusing.{spliced_length}
 use Rattle.tile_bridge.specs.Instances.{input_maps}

@@ -27,9 +27,11 @@ use Rattle.mlir_meaning.specs.Structured.{generic_box, elements, generic_element
 use Rattle.mlir_meaning.proofs.Grids.{each-append}
 use Rattle.affine_maps.specs.Permutation.{is_among}
 use Rattle.verified_runs.specs.Forms.{Structured}
-use Rattle.region_laws.specs.Moved.{args_of, index_step, linear_step, own_index, captured_step, block, blocks, width}
-use Rattle.fuse_laws.specs.Joined.{numbered_terms, applied, producer_index, expr_at, Joint, front, producer_to, producer_steps, consumer_base, consumer_to, consumer_steps, Fit}
-use Rattle.region_laws.specs.Captured.{news_of, news, named, used, in_front, IsBehind, IsNotCaptured}
+use Rattle.payload_forms.specs.Moved.{args_of, index_step, linear_step, own_index, captured_step, block, blocks, width}
+use Rattle.payload_forms.specs.Joined.{numbered_terms, applied, producer_index, expr_at, Joint, front, producer_to, producer_steps, consumer_base, consumer_to, consumer_steps}
+use Rattle.fuse_laws.specs.Joined.{Fit}
+use Rattle.payload_forms.specs.Captured.{news_of, news, named, used, in_front}
+use Rattle.region_laws.specs.Captured.{IsBehind, IsNotCaptured}
 use Rattle.pair_laws.specs.Pairs.{captured_of, joint_of, raw_op, joined_rest, used_of, value_at_place, fused_op, result_in}
 use Rattle.pair_laws.specs.Laws.{FusedFits}
 use Rattle.region_laws.proofs.Behind.{AreFree, blocks_free, behind_yield}

@@ -39,7 +39,7 @@ use Rattle.point_laws.proofs.Tables.{box_length}
 use Rattle.point_laws.proofs.Turning.{Order, order_of, new_length, old_inside}
 use Rattle.region_laws.specs.Operands.{IsRead, AreRead}
 use Rattle.region_laws.proofs.Stated.{typed_instance}
-use Rattle.fuse_laws.specs.Joined.{spliced}
+use Rattle.payload_forms.specs.Joined.{spliced}
 use Rattle.fuse_laws.specs.Fused.{pulled}
 use Rattle.fuse_laws.proofs.Fusing.{read_at, composed_is}
 use Rattle.fuse_laws.proofs.OnePoint.{picks_new}

@@ -38,7 +38,8 @@ use Rattle.point_laws.specs.Orders.{is_order}
 use Rattle.verified_runs.proofs.Steps.{added}
 use Rattle.region_laws.specs.Operands.{maps_of}
 use Rattle.point_laws.specs.Boxes.{picks}
-use Rattle.fuse_laws.specs.Joined.{spliced, joined, Fit}
+use Rattle.payload_forms.specs.Joined.{spliced, joined}
+use Rattle.fuse_laws.specs.Joined.{Fit}
 use Rattle.fuse_laws.specs.Fused.{pulled, joint, fused}
 use Rattle.region_laws.specs.Instances.{Instance, result_of, IsTypedInstance}
 use Rattle.pair_laws.specs.Pairs.{captured_of, place_in, joint_of, raw_op, fused_op, result_in, placed_in, IsPlacedIn, Stands, fused_func}

@@ -41,7 +41,8 @@ use Rattle.verified_runs.proofs.Steps.{added}
 use Rattle.point_laws.specs.Orders.{is_order, turned}
 use Rattle.region_laws.specs.Operands.{HasBox}
 use Rattle.region_laws.proofs.Stated.{typed_instance}
-use Rattle.fuse_laws.specs.Joined.{spliced, AreSmall, expr_at, Fit}
+use Rattle.payload_forms.specs.Joined.{spliced, expr_at}
+use Rattle.fuse_laws.specs.Joined.{AreSmall, Fit}
 use Rattle.fuse_laws.specs.Fused.{pulled, joint}
 use Rattle.fuse_laws.proofs.Fusing.{spliced_length}
 use Rattle.tile_bridge.specs.Instances.{HasExtents, IsInstance, instance_of, input_maps, is_parallel}

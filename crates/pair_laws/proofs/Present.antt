@@ -20,9 +20,9 @@ use Rattle.mlir_meaning.proofs.Grids.{each-append}
 use Rattle.mlir_verify.specs.Place.{is_empty}
 use Rattle.mlir_verify.specs.Types.{names_present}
 use Rattle.verified_runs.specs.Forms.{Structured}
-use Rattle.region_laws.specs.Moved.{args_of, captured_step, index_step, linear_step, own_index, block, blocks, width}
-use Rattle.fuse_laws.specs.Joined.{applied, numbered_terms, producer_index, expr_at, front, producer_to, producer_steps, consumer_base, consumer_to, consumer_steps}
-use Rattle.region_laws.specs.Captured.{news_of, news, named, placed_steps, placed_to}
+use Rattle.payload_forms.specs.Moved.{args_of, captured_step, index_step, linear_step, own_index, block, blocks, width}
+use Rattle.payload_forms.specs.Joined.{applied, numbered_terms, producer_index, expr_at, front, producer_to, producer_steps, consumer_base, consumer_to, consumer_steps}
+use Rattle.payload_forms.specs.Captured.{news_of, news, named, placed_steps, placed_to}
 use Rattle.fuse_laws.specs.Fused.{pulled}
 use Rattle.pair_laws.specs.Pairs.{captured_of, once, joint_of, joined_rest, used_of, value_at_place, fused_op}
 use Rattle.pair_laws.proofs.Forming.{used_below}

@@ -25,7 +25,7 @@ use Rattle.mlir_verify.specs.Place.{Types, is_empty}
 use Rattle.mlir_verify.specs.Tensors.{has_elements, is_alike}
 use Rattle.mlir_verify.specs.Types.{is_typed, is_input, names_present, gives_output}
 use Rattle.verified_runs.specs.Forms.{Structured, kind_of}
-use Rattle.region_laws.specs.Moved.{args_of}
+use Rattle.payload_forms.specs.Moved.{args_of}
 use Rattle.fuse_laws.specs.Joined.{IsNotOut, IsApart}
 use Rattle.pair_laws.specs.FuseAll.{is_not_out, avoids_out}
 

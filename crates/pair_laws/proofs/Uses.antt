@@ -14,7 +14,7 @@ use Rattle.mlir_meaning.proofs.Grids.{each-append}
 use Rattle.mlir_meaning.proofs.Through.{each_left, each_right}
 use Rattle.affine_maps.specs.Permutation.{is_among}
 use Rattle.verified_runs.specs.Forms.{Structured, kind_of}
-use Rattle.fuse_laws.specs.Joined.{spliced}
+use Rattle.payload_forms.specs.Joined.{spliced}
 use Rattle.pair_laws.specs.Pairs.{numbers_of, with_value, once, captured_of, joint_of, joined_rest, used_of, value_at_place, fused_op}
 use Rattle.pair_laws.proofs.Forming.{used_below}
 use Rattle.affine_maps.specs.Shape.{MapShape}

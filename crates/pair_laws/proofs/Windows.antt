@@ -30,7 +30,7 @@ use Rattle.region_laws.proofs.Operands.{weight, value_is}
 use Rattle.tile_bridge.specs.Instances.{HasExtents}
 use Rattle.tile_bridge.proofs.Axes.{one_sized, short}
 use Rattle.tile_bridge.proofs.Reading.{plain_results, points_or_none, greatest_at}
-use Rattle.fuse_laws.specs.Joined.{spliced}
+use Rattle.payload_forms.specs.Joined.{spliced}
 use Rattle.pair_laws.proofs.Zeros.{HasFixed}
 
 -- WHAT IS READ INSIDE

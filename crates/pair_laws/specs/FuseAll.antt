@@ -22,7 +22,7 @@ use Rattle.mlir_verify.specs.Extents.{axes_agree}
 use Rattle.verified_runs.specs.Passes.{Scope}
 use Rattle.verified_runs.specs.Forms.{Structured, kind_of}
 use Rattle.point_laws.specs.Orders.{is_order}
-use Rattle.region_laws.specs.Moved.{args_of}
+use Rattle.payload_forms.specs.Moved.{args_of}
 use Rattle.tile_bridge.specs.Instances.{input_maps, is_parallel}
 use Rattle.pair_laws.specs.Pairs.{fused_op, fused_func}
 

@@ -23,8 +23,9 @@ use Rattle.verified_runs.specs.Passes.{FuncPasses, scope_after}
 use Rattle.verified_runs.specs.Forms.{Structured, kind_of}
 use Rattle.point_laws.specs.Orders.{is_order}
 use Rattle.region_laws.specs.Operands.{maps_of}
-use Rattle.fuse_laws.specs.Joined.{spliced, Joint, producer_steps, consumer_steps, joined}
-use Rattle.region_laws.specs.Captured.{used, placed}
+use Rattle.payload_forms.specs.Moved.{number_at}
+use Rattle.payload_forms.specs.Joined.{spliced, Joint, producer_steps, consumer_steps, joined}
+use Rattle.payload_forms.specs.Captured.{used, placed}
 use Rattle.payload_ops.specs.Shape.{PayloadShape}
 use Rattle.mlir_base.specs.declared.types.ElemTy.TheVariants.{Int}
 use Rattle.payload_ops.specs.declared.step.PayloadStep.{PayloadStep}
@@ -47,8 +48,11 @@ abbrev pub captured_of : Structured → Structured → List ValueId
 captured_of p c = once [] (p.captured ++ c.captured)
 
 -- where the values of one of them stand among those of both
+abbrev pub places_in : List ValueId → List ValueId → List ℕ
+places_in all vs = map (λ (v : ValueId). place_of v.0 0 (numbers_of all)) vs
+
 abbrev pub place_in : List ValueId → List ValueId → ℕ → ℕ
-place_in all vs i = place_of (slice_index_or (numbers_of vs) i 0) 0 (numbers_of all)
+place_in all vs = number_at (places_in all vs)
 
 -- THE FUSED OPERATION
 -- the consumer's operand k with the map m is the producer's result, whose map takes dimensions ds

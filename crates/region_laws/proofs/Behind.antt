@@ -13,8 +13,9 @@ use Rattle.payload_ops.specs.declared.step.StepOp.{StepOp}
 use Rattle.payload_ops.specs.declared.step.StepOp.TheVariants.{Const, Index, Captured, Linear, Binary, Compare, Select, SignExtend, ZeroExtend, Truncate, IndexCast}
 use Rattle.mlir_meaning.specs.Grids.{count_up, Each}
 use Rattle.mlir_meaning.proofs.Grids.{each-append}
-use Rattle.region_laws.specs.Moved.{captured_step, block, blocks, width}
-use Rattle.region_laws.specs.Captured.{in_front, IsBehind, IsNotCaptured}
+use Rattle.payload_forms.specs.Moved.{captured_step, block, blocks, width}
+use Rattle.payload_forms.specs.Captured.{in_front}
+use Rattle.region_laws.specs.Captured.{IsBehind, IsNotCaptured}
 use Rattle.region_laws.proofs.Moves.{get_left}
 use Rattle.region_laws.proofs.Fronts.{front_at, yields}
 

@@ -13,7 +13,7 @@ use Rattle.mlir_base.specs.declared.types.ElemTy.TheVariants.{Int, Index as Inde
 use Rattle.payload_ops.specs.declared.step.PayloadStep.{PayloadStep}
 use Rattle.mlir_meaning.specs.Grids.{count_up}
 use Rattle.point_laws.proofs.Tables.{tabled_at, tabled_length}
-use Rattle.region_laws.specs.Moved.{captured_step}
+use Rattle.payload_forms.specs.Moved.{captured_step}
 use Rattle.region_laws.proofs.Moves.{type_in}
 
 pub no_step : (i : ℕ) (t : ElemTy) → option_map (λ (s : PayloadStep). s.ty) (slice_get {X = PayloadStep} [] i) ≡ Some t → ⊥

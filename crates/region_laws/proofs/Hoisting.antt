@@ -18,8 +18,8 @@ use Rattle.payload_ops.proofs.StepsLemmas.{steps_values-append}
 use Rattle.mlir_meaning.specs.Grids.{count_up, Each}
 use Rattle.mlir_meaning.proofs.Defining.{each_any}
 use Rattle.point_laws.proofs.Tables.{tabled_at, tabled_length}
-use Rattle.region_laws.specs.Moved.{args_of, captured_step, own_index, blocks}
-use Rattle.region_laws.specs.Captured.{fronts, hoisted_to, hoisted}
+use Rattle.payload_forms.specs.Moved.{args_of, captured_step, own_index, blocks}
+use Rattle.payload_forms.specs.Captured.{fronts, hoisted_to, hoisted}
 use Rattle.region_laws.proofs.Moves.{each_then, Both, steps_fit-append, type_in, type_new}
 use Rattle.region_laws.proofs.Alike.{Typed, Agree, Alike, Indexes, Supplied, blocks_alike}
 use Rattle.region_laws.proofs.Fronts.{no_step, captured_values, front_run, front_fits, front_at, yields}

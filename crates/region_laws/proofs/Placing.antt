@@ -20,8 +20,9 @@ use Rattle.payload_ops.proofs.StepsLemmas.{steps_values-append}
 use Rattle.mlir_meaning.specs.Grids.{count_up, Each}
 use Rattle.mlir_meaning.specs.Points.{has, place_of}
 use Rattle.point_laws.proofs.Tables.{tabled_at, tabled_length, count_length}
-use Rattle.region_laws.specs.Moved.{args_of, captured_step, own_index, number, block}
-use Rattle.region_laws.specs.Captured.{news_of, news, named, used, spots, others, placed_steps, placed_to, in_front, placed, IsBehind, IsNotCaptured}
+use Rattle.payload_forms.specs.Moved.{args_of, captured_step, own_index, number, block}
+use Rattle.payload_forms.specs.Captured.{news_of, news, named, used, spots, others, placed_steps, placed_to, in_front, placed}
+use Rattle.region_laws.specs.Captured.{IsBehind, IsNotCaptured}
 use Rattle.region_laws.proofs.Moves.{Both, type_in, type_kept, type_new, value_kept, value_new}
 use Rattle.region_laws.proofs.Alike.{Typed, Agree, Alike, Supplied, none_alike, then_alike, one}
 use Rattle.region_laws.proofs.Fronts.{captured_values, front_run, front_at, yields}

@@ -18,8 +18,8 @@ use Rattle.payload_ops.proofs.Words.{reduce_is}
 use Rattle.mlir_meaning.specs.Grids.{plus, Fits, Each}
 use Rattle.point_laws.proofs.Tables.{get_or-plus, tabled_at, tabled_length}
 use Rattle.region_laws.specs.Operands.{IsMoved}
-use Rattle.region_laws.specs.Moved.{index_step, linear_step}
-use Rattle.region_laws.specs.Captured.{fronts, hoisted, hoisted_to, hoisted_rest}
+use Rattle.payload_forms.specs.Moved.{index_step, linear_step}
+use Rattle.payload_forms.specs.Captured.{fronts, hoisted, hoisted_to, hoisted_rest}
 use Rattle.region_laws.specs.Shifts.{Offset, NoOffset, FixedOffset, HeldOffset, plus_offset, moved_index, tile_payload, tile_captured, IsOffset}
 use Rattle.region_laws.specs.Laws.{IndicesMove}
 use Rattle.region_laws.proofs.Moves.{type_in, type_kept, type_new}

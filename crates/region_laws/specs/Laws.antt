@@ -35,8 +35,9 @@ use Rattle.region_laws.specs.Nests.{Level, TileLoop, AreNewVars, Begins, with_va
 use Rattle.region_laws.specs.Operands.{Operand, maps_in, olds, news, tiled_operands, AreRead, CutsOutput, HasBox, IsMoved, IsRead, IsTile, inner_map, inner_maps, is_sliced, maps_of, operand_tile, operand_tiles}
 use Rattle.region_laws.specs.Regions.{AddsRegions, moved, tile, tile_step, whole_step}
 use Rattle.region_laws.specs.Shifts.{Offset, tile_payload, tile_captured, IsOffset, Stays}
-use Rattle.region_laws.specs.Moved.{own_index}
-use Rattle.region_laws.specs.Captured.{hoisted, used, in_front, placed, IsBehind, IsNotCaptured}
+use Rattle.payload_forms.specs.Moved.{own_index}
+use Rattle.payload_forms.specs.Captured.{hoisted, used, in_front, placed}
+use Rattle.region_laws.specs.Captured.{IsBehind, IsNotCaptured}
 use Rattle.region_laws.specs.TileLoops.{region_tile, IsNest, NotesTiles, nest_op, sliced_tile, started_tile, whole_tile}
 use Rattle.mlir_ir.specs.declared.tree.Iter.TheVariants.{Parallel, Reduction}
 use Rattle.mlir_meaning.specs.Points.{select_map, place_of, kept}

@@ -3,7 +3,6 @@ pub mod Operands
 pub mod Instances
 pub mod Nests
 pub mod TileLoops
-pub mod Moved
 pub mod Captured
 pub mod Shifts
 pub mod Bodies
