@@ -1,37 +1,48 @@
 -- Facts and their normal forms.
-use Rattle.std.proofs.Common.{◌≡◌, ℕ, ◌+◌, ◌<◌, ℤ, pos, ◌+ℤ◌, ◌*ℤ◌, ◌≤ℤ◌, ◌<ℤ◌, Bool, true, false, List, [], ◌∷◌, map, length, drop, get_or, refl, ap, sym, ◌∙◌, subst, arith, suc, zero, IsTrue, inl, inr, Option, Some, None}
+use Rattle.std.proofs.Common.{◌≡◌, ℕ, ◌+◌, ◌<◌, ℤ, pos, ◌+ℤ◌, ◌*ℤ◌, ◌≤ℤ◌, ◌<ℤ◌, Bool, true, false, List, [], ◌∷◌, map, length, refl, ap, sym, ◌∙◌, subst, arith, suc, zero, IsTrue, inl, inr, Option, Some, None}
 use Rattle.std.specs.Prelude.{if◌then◌else◌, nat_le}
 use Rattle.index_forms.specs.declared.form.LinForm.{LinForm}
 use Rattle.index_forms.specs.declared.form.Fact.{Fact}
 use Rattle.index_forms.specs.declared.form.Fact.TheVariants.{Loop, Least, Extent}
-use Rattle.index_forms.specs.Forms.{normal, number, within, AreForms, IsFact, AreFacts, fact_at, AtMost, OneOf, Holds, Agrees, IsAbove, IsBelow, upper_of, lower_of, negated, negated_bound, forms_met, bound}
-use Rattle.index_forms.specs.Facts.{normal_fact, normal_facts, AllIn, FactIn, FactsFrom}
-use Rattle.index_forms.proofs.Collected.{value_normal}
+use Rattle.index_forms.specs.Forms.{normal}
+use Rattle.index_forms.specs.Limit.{within}
+use Rattle.index_forms.specs.Facts.{IsFact, AreFacts, normal_fact, normal_facts, FactsFrom, AllDiffer, Distinct, AreKnown, AreNormal}
+use Rattle.index_forms.specs.Bounds.{fact_at, upper_of, lower_of, negated, negated_bound, forms_met, bound}
+use Rattle.index_forms.specs.Agreement.{AtMost, OneOf, Holds, Agrees, IsAbove, IsBelow}
+use Rattle.index_forms.proofs.Collected.{value_normal, same_normal, coefficient_normal}
 use Rattle.index_forms.proofs.Walks.{bound_out}
 use Rattle.index_forms.proofs.Negative.{within_back}
 
-pub map_at : (us vs : List LinForm) (i : ℕ) (x y : LinForm) → map normal us ≡ map normal vs → i < length us → i < length vs → x ≡ get_or us i x → y ≡ get_or vs i y → normal x ≡ normal y
-map_at [] vs i x y e h k p q = absurd (omega arith)
-map_at (a ∷ us) [] i x y e h k p q = absurd (omega arith)
-map_at (a ∷ us) (b ∷ vs) zero x y e h k p q = ap normal p ∙ ap (λ (l : List LinForm). get_or l 0 (number (pos 0))) e ∙ ap normal (sym q)
-map_at (a ∷ us) (b ∷ vs) (suc i) x y e h k p q = map_at us vs i x y (ap (λ (l : List LinForm). drop 1 l) e) (omega arith) (omega arith) p q
+-- a normal form is its own
+pub normal_again : (f : LinForm) → normal (normal f) ≡ normal f
+normal_again f = same_normal (normal f) f refl (coefficient_normal f.terms)
 
-all_in : (n : ℕ) (fs : List LinForm) → AreForms n fs → AllIn fs
-all_in n [] h = tt
-all_in n (f ∷ fs) h = (h.0.1, all_in n fs h.1)
+all_again : (fs : List LinForm) → map normal (map normal fs) ≡ map normal fs
+all_again [] = refl
+all_again (f ∷ fs) = ap (λ (g : LinForm). g ∷ map normal (map normal fs)) (normal_again f) ∙ ap (λ (gs : List LinForm). normal f ∷ gs) (all_again fs)
 
-pub fact_in : (n : ℕ) (f : Fact) → IsFact n (normal_fact f) → FactIn (normal_fact f)
-fact_in n (Loop lower upper step) h = (h.0.1, h.1.1)
-fact_in n (Least terms) h = all_in n (map normal terms) h.1
-fact_in n (Extent most) h = tt
+fact_again : (f : Fact) → normal_fact (normal_fact f) ≡ normal_fact f
+fact_again (Loop lower upper step) = ap (λ (g : LinForm). Loop g (normal (normal upper)) step) (normal_again lower) ∙ ap (λ (g : LinForm). Loop (normal lower) g step) (normal_again upper)
+fact_again (Least terms) = ap (λ (gs : List LinForm). Least gs) (all_again terms)
+fact_again (Extent most) = refl
 
-facts_at : (n : ℕ) (fs : List Fact) → FactsFrom n fs → (k : ℕ) → k < length (normal_facts fs) → IsFact (n + k) (fact_at (normal_facts fs) k)
+pub facts_again : (fs : List Fact) → normal_facts (normal_facts fs) ≡ normal_facts fs
+facts_again [] = refl
+facts_again (f ∷ fs) = ap (λ (g : Fact). g ∷ normal_facts (normal_facts fs)) (fact_again f) ∙ ap (λ (gs : List Fact). normal_fact f ∷ gs) (facts_again fs)
+
+pub are_normal : (fs all : List Fact) → all ≡ normal_facts fs → AreKnown fs → AreNormal all
+are_normal fs all e h = subst AreNormal (sym e) (subst (λ (gs : List Fact). FactsFrom 0 gs × Distinct gs) (sym (facts_again fs)) h, facts_again fs)
+
+facts_at : (n : ℕ) (fs : List Fact) → FactsFrom n fs → (k : ℕ) → k < length fs → IsFact (n + k) (fact_at fs k)
 facts_at n [] h k p = absurd (omega arith)
-facts_at n (f ∷ fs) h zero p = subst (λ (m : ℕ). IsFact m (normal_fact f)) (omega arith) h.0
-facts_at n (f ∷ fs) h (suc k) p = subst (λ (m : ℕ). IsFact m (fact_at (normal_facts fs) k)) (omega arith) (facts_at (suc n) fs h.1 k (omega arith))
+facts_at n (f ∷ fs) h zero p = subst (λ (m : ℕ). IsFact m f) (omega arith) h.0
+facts_at n (f ∷ fs) h (suc k) p = subst (λ (m : ℕ). IsFact m (fact_at fs k)) (omega arith) (facts_at (suc n) fs h.1 k (omega arith))
 
-pub are_facts : (fs : List Fact) → FactsFrom 0 fs → AreFacts (normal_facts fs)
-are_facts fs h k p = subst (λ (m : ℕ). IsFact m (fact_at (normal_facts fs) k)) (omega arith) (facts_at 0 fs h k p)
+from_first : (fs : List Fact) → FactsFrom 0 fs → AreFacts fs
+from_first fs h k p = subst (λ (m : ℕ). IsFact m (fact_at fs k)) (omega arith) (facts_at 0 fs h k p)
+
+pub are_facts : (fs : List Fact) → AreNormal fs → AreFacts fs
+are_facts fs h = from_first fs (subst (FactsFrom 0) h.1 h.0.0)
 
 pub same_length : (fs : List Fact) → length (normal_facts fs) ≡ length fs
 same_length [] = refl
@@ -56,16 +67,16 @@ module _ (env : ℕ → ℤ) where
   holds (Least terms) v h = (at_most v terms h.0, one_of v terms h.1)
   holds (Extent most) v h = h
 
-  agrees : (fs : List Fact) → Agrees fs env → Agrees (normal_facts fs) env
+  pub agrees : (fs : List Fact) → Agrees fs env → Agrees (normal_facts fs) env
   agrees fs h k p = let l = same_length fs in subst (λ (f : Fact). Holds f (env k) env) (sym (fact_of fs k (omega arith))) (holds (fact_at fs k) (env k) (h k (omega arith)))
 
-pub above : (fs : List Fact) (f : LinForm) (x : Option ℤ) → IsAbove (normal_facts fs) (normal f) x → IsAbove fs f x
+pub above : (fs : List Fact) (f : LinForm) (x : Option ℤ) → IsAbove fs (normal f) x → IsAbove fs f x
 above fs f None h = tt
-above fs f (Some b) h = λ env a. subst (λ (z : ℤ). z ≤ℤ b) (value_normal env f) (h env (agrees env fs a))
+above fs f (Some b) h = λ env a. subst (λ (z : ℤ). z ≤ℤ b) (value_normal env f) (h env a)
 
-pub below : (fs : List Fact) (f : LinForm) (x : Option ℤ) → IsBelow (normal_facts fs) (normal f) x → IsBelow fs f x
+pub below : (fs : List Fact) (f : LinForm) (x : Option ℤ) → IsBelow fs (normal f) x → IsBelow fs f x
 below fs f None h = tt
-below fs f (Some b) h = λ env a. subst (λ (z : ℤ). b ≤ℤ z) (value_normal env f) (h env (agrees env fs a))
+below fs f (Some b) h = λ env a. subst (λ (z : ℤ). b ≤ℤ z) (value_normal env f) (h env a)
 
 -- no bound where a number of the form is past the limit
 pub upper_none : (fs : List Fact) (f : LinForm) → within f ≡ false → None ≡ upper_of fs f
@@ -79,3 +90,16 @@ lower_none fs f h = ap negated_bound (upper_none fs (negated f) (of_test (within
   of_test : (t : Bool) → within (negated f) ≡ t → t ≡ false
   of_test false e = refl
   of_test true e = absurd (let k : IsTrue (within f) = within_back f e in let m : true ≡ false = sym k ∙ h in cc)
+
+-- what is no minimum differs from each fact
+pub loop_differs : (f : Fact) (lower upper : LinForm) (step : ℤ) (gs : List Fact) → f ≡ Loop lower upper step → AllDiffer f gs
+loop_differs f lower upper step gs e = subst (λ (x : Fact). AllDiffer x gs) (sym e) (each gs) where
+  each : (gs : List Fact) → AllDiffer (Loop lower upper step) gs
+  each [] = tt
+  each (g ∷ gs) = (tt, each gs)
+
+pub extent_differs : (f : Fact) (most : ℤ) (gs : List Fact) → f ≡ Extent most → AllDiffer f gs
+extent_differs f most gs e = subst (λ (x : Fact). AllDiffer x gs) (sym e) (each gs) where
+  each : (gs : List Fact) → AllDiffer (Extent most) gs
+  each [] = tt
+  each (g ∷ gs) = (tt, each gs)

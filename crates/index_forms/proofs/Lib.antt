@@ -7,5 +7,7 @@ pub mod Negative
 pub mod Collected
 pub mod Known
 pub mod Gathered
+pub mod Mapped
+pub mod Frames
 pub mod Sums
 mod Worked

@@ -2,7 +2,9 @@
 use Rattle.std.proofs.Common.{◌≡◌, ℤ, pos, negsuc, neg_ℤ, ◌-ℤ◌, ◌*ℤ◌, [], ◌∷◌, arith, IsTrue}
 use Rattle.std.proofs.lemmas.Int.{ints}
 use Rattle.index_forms.specs.declared.form.LinForm.{LinForm}
-use Rattle.index_forms.specs.Forms.{in_limit, all_in, within, scaled, negated}
+use Rattle.index_forms.specs.Forms.{scaled}
+use Rattle.index_forms.specs.Limit.{in_limit, all_in, within}
+use Rattle.index_forms.specs.Bounds.{negated}
 use Rattle.index_forms.proofs.Ints.{and_left, and_right, and_both, limit_low, limit_high, limit_in}
 use Rattle.index_forms.proofs.Limits.{Terms}
 

@@ -7,7 +7,11 @@ use Rattle.std.proofs.lemmas.Bool.Decides.{nat_tests}
 use Rattle.index_forms.specs.declared.form.LinForm.{LinForm}
 use Rattle.index_forms.specs.declared.form.Fact.{Fact}
 use Rattle.index_forms.specs.declared.form.Fact.TheVariants.{Loop, Least, Extent}
-use Rattle.index_forms.specs.Forms.{terms_value, value_of, form, number, plus, within, choices, loop_end, join, combined, ended, bounds_of, bound, bound_step, fact_at, AtMost, OneOf, Holds, Agrees, AreFacts, IsFact, upper_of, lower_of, negated, negated_bound, forms_met, IsAbove, IsBelow}
+use Rattle.index_forms.specs.Forms.{terms_value, value_of, form, number, plus}
+use Rattle.index_forms.specs.Limit.{within}
+use Rattle.index_forms.specs.Facts.{AreFacts, IsFact}
+use Rattle.index_forms.specs.Bounds.{choices, loop_end, join, combined, ended, bounds_of, bound, bound_step, fact_at, upper_of, lower_of, negated, negated_bound, forms_met}
+use Rattle.index_forms.specs.Agreement.{AtMost, OneOf, Holds, Agrees, IsAbove, IsBelow}
 use Rattle.index_forms.proofs.Ints.{mul_le_pos, mul_le_neg, last_below}
 use Rattle.index_forms.proofs.Limits.{checked_some}
 use Rattle.index_forms.proofs.Values.{value-scaled}

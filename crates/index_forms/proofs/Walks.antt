@@ -1,17 +1,15 @@
 -- What one step of the elimination does.
-use Rattle.std.proofs.Common.{◌≡◌, ℕ, ◌+◌, ◌<◌, ◌≤◌, ◌==◌, ℤ, pos, negsuc, int_lt, Bool, true, false, List, [], ◌∷◌, length, drop, get_or, refl, ap, sym, ◌∙◌, subst, arith, suc, zero, IsTrue, add-one, Option, Some, None, ◌⊎◌, inl, inr, add-zero, Result, Ok, Err, IfOk, IfErr, FitsSigned, w64, to_z, of_z, take, ◌-◌}
-use Rattle.std.specs.List.{fold}
-use Rattle.std.proofs.lemmas.List.{take_all}
+use Rattle.std.proofs.Common.{◌≡◌, ℕ, ◌+◌, ◌<◌, ◌≤◌, ◌==◌, ℤ, pos, negsuc, int_lt, Bool, true, false, List, [], ◌∷◌, length, get_or, refl, ap, sym, ◌∙◌, subst, arith, suc, zero, IsTrue, Option, Some, None, ◌⊎◌, inl, inr, Result, Ok, Err, IfOk, FitsSigned, w64, to_z, of_z}
 use Rattle.std.proofs.lemmas.Int.{to_z-of_z}
 use Rattle.std.specs.Prelude.{if◌then◌else◌}
 use Rattle.std.proofs.lemmas.Bool.{cases_lt}
 use Rattle.std.proofs.lemmas.Bool.Decides.{nat_tests}
-use Rattle.std.proofs.Math.Seq.{drop-cons}
 use Rattle.index_forms.specs.declared.form.LinForm.{LinForm}
 use Rattle.index_forms.specs.declared.form.Fact.{Fact}
 use Rattle.index_forms.specs.declared.form.Fact.TheVariants.{Loop, Extent}
-use Rattle.index_forms.specs.Forms.{form, keep, scaled, plus, within, all_in, in_limit, Falls, ended, bound, bound_step, forms_met, met_step, bounds_of, met_of, join, combined, choices, loop_end, fact_at, AreForms, IsForm}
-use Rattle.index_forms.proofs.Ints.{and_right}
+use Rattle.index_forms.specs.Forms.{form, keep, scaled, plus, Falls}
+use Rattle.index_forms.specs.Limit.{within, AreForms, IsForm}
+use Rattle.index_forms.specs.Bounds.{ended, bound, bound_step, forms_met, met_step, bounds_of, met_of, combined, choices, loop_end, fact_at}
 use Rattle.index_forms.proofs.Limits.{Terms}
 
 pub falls_more : (m n : ℕ) (ts : Terms) → m ≤ n → Falls m ts → Falls n ts
@@ -92,36 +90,6 @@ module _ (facts : List Fact) where
       of_case (inl q) ih = (bound_open n (form c (t ∷ ts)) h ∙ bound_later n q ∙ (ih q).0, met_open n (form c (t ∷ ts)) h ∙ met_later n q ∙ (ih q).1)
       of_case (inr q) ih = (bound_open n (form c (t ∷ ts)) h ∙ bound_here n (omega arith), met_open n (form c (t ∷ ts)) h ∙ met_here n (omega arith))
 
-module _ (facts : List Fact) (n : ℕ) (f : LinForm) (t : ℕ × ℤ) (ts : Terms) (is : f.terms ≡ t ∷ ts) (w : IsTrue (within f)) (falls : Falls n f.terms) where
-  shape : (P : LinForm → Type 0) → P (form f.constant (t ∷ ts)) → P f
-  shape P h = subst (λ (x : Terms). P (form f.constant x)) (sym is) h
-
-  within_shape : IsTrue (within (form f.constant (t ∷ ts)))
-  within_shape = subst (λ (x : Terms). IsTrue (within (form f.constant x))) is w
-
-  pub falls_shape : (t.0 < n) × Falls t.0 ts
-  falls_shape = subst (λ (x : Terms). Falls n x) is falls
-
-  pub rest_in : IsTrue (all_in ts)
-  rest_in = and_right (in_limit t.1) (all_in ts) (and_right (in_limit f.constant) (all_in (t ∷ ts)) within_shape)
-
-  pub many_are : (gs : List LinForm) → choices (fact_at facts t.0) t.1 ≡ gs →
-      (bound facts n f ≡ combined (int_lt (pos 0) t.1) (bounds_of (bound facts t.0) f.constant ts t.1 gs)) × (forms_met facts n f ≡ 1 + met_of (forms_met facts t.0) f.constant ts t.1 gs)
-  many_are gs e =
-      let b = both_at facts f.constant t ts within_shape n falls_shape.0 in (
-        shape (λ x. bound facts n x ≡ combined (int_lt (pos 0) t.1) (bounds_of (bound facts t.0) f.constant ts t.1 gs)) (b.0 ∙ ap (λ (gs : List LinForm). combined (int_lt (pos 0) t.1) (bounds_of (bound facts t.0) f.constant ts t.1 gs)) e),
-        shape (λ x. forms_met facts n x ≡ 1 + met_of (forms_met facts t.0) f.constant ts t.1 gs) (b.1 ∙ ap (λ (gs : List LinForm). 1 + met_of (forms_met facts t.0) f.constant ts t.1 gs) e),
-      )
-
-  pub one_is : (g : LinForm) → choices (fact_at facts t.0) t.1 ≡ g ∷ [] →
-      (bound facts n f ≡ bound facts t.0 (plus (form f.constant ts) t.1 g)) × (forms_met facts n f ≡ 1 + forms_met facts t.0 (plus (form f.constant ts) t.1 g))
-  one_is g e = let m = many_are (g ∷ []) e in (m.0, m.1 ∙ ap (λ (k : ℕ). 1 + k) (add-zero _))
-
-pub AreForms-drop : (n i : ℕ) (fs : List LinForm) → AreForms n fs → AreForms n (drop i fs)
-AreForms-drop n zero fs h = h
-AreForms-drop n (suc i) [] h = h
-AreForms-drop n (suc i) (f ∷ fs) h = AreForms-drop n i fs h.1
-
 pub AreForms-at : (n i : ℕ) (fs : List LinForm) (d : LinForm) → AreForms n fs → i < length fs → IsForm n (get_or fs i d)
 AreForms-at n i [] d h p = absurd (omega arith)
 AreForms-at n zero (f ∷ fs) d h p = h.0
@@ -130,10 +98,6 @@ AreForms-at n (suc i) (f ∷ fs) d h p = AreForms-at n i fs d h.1 (omega arith)
 pub ok_map : {A E : Type 0} (r : Result A E) (P Q : A → Type 0) → ((a : A) → P a → Q a) → IfOk r P → IfOk r Q
 ok_map (Ok a) P Q f h = f a h
 ok_map (Err e) P Q f h = tt
-
-pub err_map : {A E : Type 0} (r : Result A E) (P Q : E → Type 0) → ((e : E) → P e → Q e) → IfErr r P → IfErr r Q
-err_map (Ok a) P Q f h = tt
-err_map (Err e) P Q f h = f e h
 
 abbrev sum_or : LinForm → Option LinForm
 sum_or p = if within p then Some p else None
@@ -175,13 +139,6 @@ clean_sum c a n ts gs f g h =
     ap (λ (x : ℤ). plus (form x ts) (to_z w64 (of_z w64 a)) (form (to_z w64 (of_z w64 n)) gs)) (clean c f)
     ∙ ap (λ (x : ℤ). plus (form c ts) x (form (to_z w64 (of_z w64 n)) gs)) (clean a g) ∙ ap (λ (x : ℤ). plus (form c ts) a (form x gs)) (clean n h)
 
-one_more_form : (fs : List LinForm) (i : ℕ) (d : LinForm) → i < length fs → drop i fs ≡ get_or fs i d ∷ drop (i + 1) fs
-one_more_form fs i d h = rw add-one (drop-cons fs i d h)
-
-pub all_but_first : {A : Type 0} (fs : List A) (g : A) → 0 < length fs → g ≡ get_or fs 0 g → fs ≡ g ∷ take (length fs - 1) (drop 1 fs)
-all_but_first (f ∷ fs) g h e = ap (λ x. x ∷ fs) (sym e) ∙ ap (λ x. g ∷ x) (sym (take_all (length (f ∷ fs) - 1) fs (omega arith)))
-all_but_first [] g h e = absurd (omega arith)
-
 pub get_same : {A : Type 0} (xs : List A) (k : ℕ) (d e : A) → k < length xs → get_or xs k d ≡ get_or xs k e
 get_same [] k d e h = absurd (omega arith)
 get_same (x ∷ xs) zero d e h = refl
@@ -190,28 +147,8 @@ get_same (x ∷ xs) (suc k) d e h = get_same xs k d e (omega arith)
 pub fact_is : (facts : List Fact) (k : ℕ) (r : Fact) → k < length facts → r ≡ get_or facts k r → fact_at facts k ≡ r
 fact_is facts k r h e = get_same facts k (Extent (pos 0)) r h ∙ sym e
 
-pub terms_are : (ts us : Terms) → ts ≡ us → ¬ (length ts ≡ 0) → us ≡ get_or ts 0 (0, pos 0) ∷ take (length ts - 1) (drop 1 ts)
-terms_are ts us e h = sym e ∙ all_but_first ts (get_or ts 0 (0, pos 0)) (omega arith) (get_same ts 0 _ _ (omega arith))
-
 pub choice_end : (fact : Fact) (l u : LinForm) (s a : ℤ) → fact ≡ Loop l u s → int_lt (pos 0) a ≡ true → choices fact a ≡ loop_end l u s ∷ []
 choice_end fact l u s a e h = ap (λ (x : Fact). choices x a) e ∙ ap (λ (b : Bool). (if b then loop_end l u s else l) ∷ []) h
 
 pub choice_start : (fact : Fact) (l u : LinForm) (s a : ℤ) → fact ≡ Loop l u s → int_lt (pos 0) a ≡ false → choices fact a ≡ l ∷ []
 choice_start fact l u s a e h = ap (λ (x : Fact). choices x a) e ∙ ap (λ (b : Bool). (if b then loop_end l u s else l) ∷ []) h
-
-module _ (facts : List Fact) (atom : ℕ) (c : ℤ) (ts : Terms) (a : ℤ) (items : List LinForm) (i : ℕ) (g : LinForm) (h : i < length items) (is : g ≡ get_or items i g) where
-  opens : drop i items ≡ g ∷ drop (i + 1) items
-  opens = one_more_form items i g h ∙ ap (λ (x : LinForm). x ∷ drop (i + 1) items) (sym is)
-
-  pub each_bound : (one : Bool) (best next new whole : Option ℤ) → fold (join one) best (bounds_of (bound facts atom) c ts a (drop i items)) ≡ whole →
-      next ≡ bound facts atom (plus (form c ts) a g) → new ≡ join one best next → fold (join one) new (bounds_of (bound facts atom) c ts a (drop (i + 1) items)) ≡ whole
-  each_bound one best next new whole e n j =
-      ap (λ (x : Option ℤ). fold (join one) x (bounds_of (bound facts atom) c ts a (drop (i + 1) items))) (j ∙ ap (join one best) n)
-      ∙ ap (λ (x : List LinForm). fold (join one) best (bounds_of (bound facts atom) c ts a x)) (sym opens) ∙ e
-
-  pub each_met : met_of (forms_met facts atom) c ts a (drop i items) ≡ forms_met facts atom (plus (form c ts) a g) + met_of (forms_met facts atom) c ts a (drop (i + 1) items)
-  each_met = ap (met_of (forms_met facts atom) c ts a) opens
-
-pub AreForms-rest : (n : ℕ) (fs : List LinForm) → AreForms n fs → AreForms n (take (length fs - 1) (drop 1 fs))
-AreForms-rest n [] h = tt
-AreForms-rest n (f ∷ fs) h = subst (λ (x : List LinForm). AreForms n x) (sym (take_all (length (f ∷ fs) - 1) fs (omega arith))) h.1

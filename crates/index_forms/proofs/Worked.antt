@@ -1,7 +1,8 @@
 -- Bounds computed apart from this program.
 use Rattle.std.specs.Prelude.{ℕ, ℤ, pos, negsuc, List, [], ◌∷◌, Option, Some, None}
 use Rattle.std.proofs.Common.{◌≡◌, refl}
-use Rattle.index_forms.specs.Forms.{form, number, terms_below, sum_terms, bound, forms_met, upper_of, lower_of}
+use Rattle.index_forms.specs.Forms.{form, number, terms_below, sum_terms}
+use Rattle.index_forms.specs.Bounds.{bound, forms_met, upper_of, lower_of}
 use Rattle.index_forms.specs.declared.form.LinForm.{LinForm}
 use Rattle.index_forms.specs.declared.form.Fact.{Fact}
 use Rattle.index_forms.specs.declared.form.Fact.TheVariants.{Loop, Least, Extent}

@@ -1,3 +1,7 @@
 pub mod Forms
-pub mod Same
+pub mod Limit
 pub mod Facts
+pub mod Bounds
+pub mod Agreement
+pub mod Same
+pub mod Stack

@@ -1,6 +1,7 @@
 ghost use Rattle.std.specs.Prelude.{◌≡◌, ◌≤◌, length, IfOk};
-ghost use Rattle.index_forms.specs.Forms.{normal, Falls, upper_of, lower_of, IsAbove, IsBelow};
-ghost use Rattle.index_forms.specs.Facts.{normal_facts};
+ghost use Rattle.index_forms.specs.Forms.{normal, Falls};
+ghost use Rattle.index_forms.specs.Bounds.{upper_of, lower_of};
+ghost use Rattle.index_forms.specs.Agreement.{IsAbove, IsBelow};
 
 use crate::bounds::{plain_lower, plain_upper};
 use crate::facts::Facts;
@@ -14,11 +15,11 @@ use std::alloc::Global;
 /// forms.
 pub fn upper(alloc: Global, facts: &Facts, f: &LinForm) -> Result<Option<i64>, Memory>
     requires known { Falls (length facts.now) (normal f.now).terms }
-    ensures bound { IfOk result (λ b. b ≡ upper_of (normal_facts facts.now) (normal f.now)) }
+    ensures bound { IfOk result (λ b. b ≡ upper_of facts.now (normal f.now)) }
     ensures sound { IfOk result (λ b. IsAbove facts.now f.now b) }
 {
     match normal(f, alloc)? {
-        Some(form) => plain_upper(facts.as_slice(), &form, alloc),
+        Some(form) => plain_upper(facts.as_slice(), form, alloc),
         None => Ok(None),
     }
 }
@@ -26,7 +27,7 @@ pub fn upper(alloc: Global, facts: &Facts, f: &LinForm) -> Result<Option<i64>, M
 /// A lower bound of a form, the mirror image of `upper`.
 pub fn lower(alloc: Global, facts: &Facts, f: &LinForm) -> Result<Option<i64>, Memory>
     requires known { Falls (length facts.now) (normal f.now).terms }
-    ensures bound { IfOk result (λ b. b ≡ lower_of (normal_facts facts.now) (normal f.now)) }
+    ensures bound { IfOk result (λ b. b ≡ lower_of facts.now (normal f.now)) }
     ensures sound { IfOk result (λ b. IsBelow facts.now f.now b) }
 {
     match normal(f, alloc)? {

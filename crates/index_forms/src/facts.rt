@@ -1,12 +1,15 @@
 ghost use Rattle.std.specs.Prelude.{◌≡◌, ℕ, ◌↔◌, IsTrue, IsSome, IfSome, ◌<ℤ◌, ◌≤ℤ◌, pos, map, length, ◌<◌, ◌≤◌};
-ghost use Rattle.index_forms.specs.Forms.{normal, coefficient, within, top, collected, in_limit, Falls, IsForm, AreForms, IsFact};
-ghost use Rattle.index_forms.specs.Facts.{normal_fact, FactsFrom, Differ, AllDiffer, Distinct, AreKnown};
+ghost use Rattle.index_forms.specs.Forms.{normal, coefficient, top, collected, Falls};
+ghost use Rattle.index_forms.specs.Limit.{within, in_limit, IsForm, AreForms};
+ghost use Rattle.index_forms.specs.Facts.{IsFact, normal_fact, normal_facts, FactsFrom, Differ, AllDiffer, Distinct, AreKnown, AreNormal};
 ghost use Rattle.index_forms.specs.Same.{NoneFrom};
 
 use crate::form::{Fact, LIMIT, LinForm};
-use crate::normal::{coefficient, equal, is_in_range};
+use crate::normal::{coefficient, is_in_limit, normal_terms};
 use mlir_base::List;
+use std::alloc::Global;
 use std::marker::Model;
+use std::mem;
 
 /// Tells whether each of these atoms is below `count` or has the coefficient 0.
 fn none_from(count: u64, atoms: &[(u32, i64)], terms: &[(u32, i64)]) -> bool
@@ -23,27 +26,53 @@ fn none_from(count: u64, atoms: &[(u32, i64)], terms: &[(u32, i64)]) -> bool
     true
 }
 
-/// Tells whether the normal form has atoms below `count` alone, and numbers within the limit.
-fn form_fits(count: u64, f: &LinForm) -> bool
-    ensures { IsTrue result ↔ IsForm count (normal f.now) }
+/// Tells whether falling terms have atoms below `count` alone.
+fn is_below(count: u64, terms: &[(u32, i64)]) -> bool
+    requires { Falls (top terms.now) terms.now }
+    ensures { IsTrue result ↔ Falls count terms.now }
 {
-    let terms = f.terms.as_slice();
-    if !is_in_range(f) {
-        return false;
-    }
-    none_from(count, terms, terms)
+    terms.len() == 0 || (terms[0].0 as u64) < count
 }
 
-/// Tells whether each of these forms has atoms below `count` alone, and numbers within the limit.
-fn forms_fit(count: u64, forms: &[LinForm]) -> bool
-    ensures { IsTrue result ↔ AreForms count (map normal forms.now) }
+/// Makes a form normal. False exactly where it then has an atom not below `count` or a number past the
+/// limit.
+fn form_fits(count: u64, f: &mut LinForm, alloc: Global) -> bool
+    ensures fits { IsTrue result ↔ IsForm count (normal f.old) }
+    ensures value { IsTrue result → f.new ≡ normal f.old }
 {
-    for form in forms {
-        if !form_fits(count, form) {
+    let terms = mem::replace(&mut f.terms, List::new(alloc));
+    match normal_terms(terms.into_vec()) {
+        Some(terms) => {
+            let fits = is_in_limit(f.constant as i128) && is_below(count, terms.as_slice());
+            f.terms = terms;
+            fits
+        }
+        None => false,
+    }
+}
+
+/// The same for each of these forms.
+fn forms_fit(count: u64, forms: &mut [LinForm], alloc: Global) -> bool
+    ensures fits { IsTrue result ↔ AreForms count (map normal forms.old) }
+    ensures value { IsTrue result → forms.new ≡ map normal forms.old }
+{
+    for form in forms.iter_mut() {
+        if !form_fits(count, form, alloc) {
             return false;
         }
     }
     true
+}
+
+/// The same for the forms of a minimum, of which there is at least one.
+fn minimum_fits(count: u64, terms: &mut List<LinForm>, alloc: Global) -> bool
+    ensures fits { IsTrue result ↔ ((0 < length (map normal terms.old)) × AreForms count (map normal terms.old)) }
+    ensures value { IsTrue result → terms.new ≡ map normal terms.old }
+{
+    let mut forms = mem::replace(terms, List::new(alloc)).into_vec();
+    let fits = forms.len() > 0 && forms_fit(count, forms.as_mut_slice(), alloc);
+    *terms = List::from_vec(forms);
+    fits
 }
 
 /// Tells whether a number may be a loop's step.
@@ -60,26 +89,66 @@ fn is_most(most: i64) -> bool
     0 <= most && most <= LIMIT
 }
 
-/// Tells whether a fact may be that of the atom `count`.
-fn fact_fits(count: u64, fact: &Fact) -> bool
-    ensures { IsTrue result ↔ IsFact count (normal_fact fact.now) }
+/// The fact with normal forms. `None` exactly where it may not be that of the atom `count`.
+fn fitting(count: u64, fact: Fact, alloc: Global) -> Option<Fact>
+    ensures fits { IsSome result ↔ IsFact count (normal_fact fact) }
+    ensures value { IfSome result (λ f. f ≡ normal_fact fact) }
 {
     match fact {
-        Fact::Loop { lower, upper, step } => {
-            form_fits(count, lower) && form_fits(count, upper) && is_step(*step)
+        Fact::Loop {
+            mut lower,
+            mut upper,
+            step,
+        } => {
+            if !form_fits(count, &mut lower, alloc) {
+                return None;
+            }
+            if form_fits(count, &mut upper, alloc) && is_step(step) {
+                Some(Fact::Loop { lower, upper, step })
+            } else {
+                None
+            }
         }
-        Fact::Least { terms } => terms.len() > 0 && forms_fit(count, terms.as_slice()),
-        Fact::Extent { most } => is_most(*most),
+        Fact::Least { mut terms } => {
+            if minimum_fits(count, &mut terms, alloc) {
+                Some(Fact::Least { terms })
+            } else {
+                None
+            }
+        }
+        Fact::Extent { most } => {
+            if is_most(most) {
+                Some(Fact::Extent { most })
+            } else {
+                None
+            }
+        }
     }
 }
 
-/// Tells whether each fact may be that of its atom.
-fn facts_fit(facts: &[Fact]) -> bool
-    ensures { IsTrue result ↔ FactsFrom 0 facts.now }
+/// Makes the forms of a fact normal. False exactly where it may not be that of the atom `count`.
+fn fact_fits(count: u64, fact: &mut Fact, alloc: Global) -> bool
+    ensures fits { IsTrue result ↔ IsFact count (normal_fact fact.old) }
+    ensures value { IsTrue result → fact.new ≡ normal_fact fact.old }
+{
+    let old = mem::replace(fact, Fact::Extent { most: 0 });
+    match fitting(count, old, alloc) {
+        Some(new) => {
+            *fact = new;
+            true
+        }
+        None => false,
+    }
+}
+
+/// Makes the forms of facts normal. False exactly where one may not be that of its atom.
+fn facts_fit(facts: &mut [Fact], alloc: Global) -> bool
+    ensures fits { IsTrue result ↔ FactsFrom 0 (normal_facts facts.old) }
+    ensures value { IsTrue result → facts.new ≡ normal_facts facts.old }
 {
     let mut count = 0u64;
-    for fact in facts {
-        if !fact_fits(count, fact) {
+    for fact in facts.iter_mut() {
+        if !fact_fits(count, fact, alloc) {
             return false;
         }
         count += 1;
@@ -87,15 +156,48 @@ fn facts_fit(facts: &[Fact]) -> bool
     true
 }
 
-/// Tells whether two minima have the same terms.
-fn same_forms(a: &[LinForm], b: &[LinForm]) -> bool
-    ensures { IsTrue result ↔ (map normal a.now ≡ map normal b.now) }
+fn same_term(a: &(u32, i64), b: &(u32, i64)) -> bool
+    ensures { IsTrue result ↔ (a.now ≡ b.now) }
+{
+    if a.1 < b.1 || b.1 < a.1 {
+        return false;
+    }
+    a.0 == b.0
+}
+
+fn same_terms(a: &[(u32, i64)], b: &[(u32, i64)]) -> bool
+    ensures { IsTrue result ↔ (a.now ≡ b.now) }
 {
     if a.len() != b.len() {
         return false;
     }
     for i in 0..a.len() {
-        if !equal(&a[i], &b[i]) {
+        if !same_term(&a[i], &b[i]) {
+            return false;
+        }
+    }
+    true
+}
+
+/// Tells whether two forms are the same.
+fn same_form(a: &LinForm, b: &LinForm) -> bool
+    ensures { IsTrue result ↔ (a.now ≡ b.now) }
+{
+    if a.constant < b.constant || b.constant < a.constant {
+        return false;
+    }
+    same_terms(a.terms.as_slice(), b.terms.as_slice())
+}
+
+/// Tells whether two minima have the same terms.
+fn same_forms(a: &[LinForm], b: &[LinForm]) -> bool
+    ensures { IsTrue result ↔ (a.now ≡ b.now) }
+{
+    if a.len() != b.len() {
+        return false;
+    }
+    for i in 0..a.len() {
+        if !same_form(&a[i], &b[i]) {
             return false;
         }
     }
@@ -117,10 +219,15 @@ fn differ(f: &Fact, g: &Fact) -> bool
     }
 }
 
-/// Tells whether a fact differs so from each of these.
+/// Tells whether a fact differs so from each of these, as one that is no minimum does.
 fn all_differ(f: &Fact, others: &[Fact]) -> bool
     ensures { IsTrue result ↔ AllDiffer f.now others.now }
 {
+    match f {
+        Fact::Least { .. } => {}
+        Fact::Loop { .. } => return true,
+        Fact::Extent { .. } => return true,
+    }
     for other in others {
         if !differ(f, other) {
             return false;
@@ -141,7 +248,7 @@ fn are_distinct(facts: &[Fact]) -> bool
     true
 }
 
-/// What is known of each atom: the k-th fact is that of atom k. `Facts::new` makes it.
+/// What is known of each atom, with normal forms: the k-th fact is that of atom k. `Facts::new` makes it.
 #[derive(Drop)]
 pub struct Facts {
     facts: List<Fact>,
@@ -149,31 +256,35 @@ pub struct Facts {
 
 impl Model for Facts {
     ghost use Rattle.std.specs.Prelude.{List as Sequence};
-    ghost use Rattle.index_forms.specs.Facts.{AreKnown};
+    ghost use Rattle.index_forms.specs.Facts.{AreNormal};
     ghost use Rattle.index_forms.specs.declared.form.Fact.{Fact as Known};
 
     ghost Value = { Sequence Known };
 
     ghost view = { λ f. f.facts };
 
-    ghost invariant = { λ f. AreKnown f.facts };
+    ghost invariant = { λ f. AreNormal f.facts };
 }
 
 impl Facts {
-    /// The facts of the atoms, in order. `None` exactly where a form of a fact uses an atom whose
+    /// The facts of the atoms, in order, made normal in place. `None` exactly where a form of a fact uses an atom whose
     /// number is not smaller than the fact's, a step is below 1, `most` is negative, a minimum has no
     /// term, two minima have equal lists of terms, or a number leaves plus and minus 2^62.
     pub fn new(facts: List<Fact>) -> Option<Facts>
         ensures valid { IsSome result ↔ AreKnown facts }
-        ensures value { IfSome result (λ m. m ≡ facts) }
+        ensures value { IfSome result (λ m. m ≡ normal_facts facts) }
     {
-        if !facts_fit(facts.as_slice()) {
+        let mut all = facts.into_vec();
+        let alloc = *all.allocator();
+        if !facts_fit(all.as_mut_slice(), alloc) {
             return None;
         }
-        if !are_distinct(facts.as_slice()) {
+        if !are_distinct(all.as_slice()) {
             return None;
         }
-        Some(Facts { facts })
+        Some(Facts {
+            facts: List::from_vec(all),
+        })
     }
 
     /// Tells whether each atom of a form has a fact, as `upper` and `lower` ask.
@@ -187,7 +298,7 @@ impl Facts {
     /// The facts, in order.
     pub(crate) fn as_slice(&self) -> &[Fact]
         ensures value { result.now ≡ self.now }
-        ensures kept { AreKnown self.now }
+        ensures kept { AreNormal self.now }
     {
         self.facts.as_slice()
     }

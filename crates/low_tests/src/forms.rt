@@ -104,3 +104,66 @@ fn forms_are_bounded(rt: HostRuntime) -> Result<(), Memory> {
     }
     Ok(())
 }
+
+/// Atom 0 is at most 5, and each of the next `count` atoms is the least of the one before alone.
+fn row(alloc: Global, count: u32) -> Result<List<Fact>, Memory> {
+    let mut facts = List::new(alloc);
+    facts.push(Fact::Extent { most: 5 })?;
+    for before in 0..count {
+        let mut terms = List::new(alloc);
+        terms.push((before, 1i64))?;
+        let mut forms = List::new(alloc);
+        forms.push(LinForm { constant: 0, terms })?;
+        facts.push(Fact::Least { terms: forms })?;
+    }
+    Ok(facts)
+}
+
+/// The upper bound of the last of so many minima.
+fn last_of_row(alloc: Global, count: u32) -> Result<Option<i64>, Memory> {
+    let mut terms = List::new(alloc);
+    terms.push((count, 1i64))?;
+    let form = LinForm { constant: 0, terms };
+    match Facts::new(row(alloc, count)?) {
+        Some(facts) if facts.covers(&form) => upper(alloc, &facts, &form),
+        _ => Ok(None),
+    }
+}
+
+#[test]
+fn four_thousand_forms_are_met(rt: HostRuntime) -> Result<(), Memory> {
+    assert!(rt; last_of_row(rt.alloc(), 4094)? == Some(5));
+    assert!(rt; last_of_row(rt.alloc(), 4095)? == None);
+    Ok(())
+}
+
+/// Coefficients of an atom are gathered: 3 - 2 of atom 1, which is the least of 4 and atom 0 twice.
+#[test]
+fn forms_of_facts_are_gathered(rt: HostRuntime) -> Result<(), Memory> {
+    let mut twice = List::new(rt.alloc());
+    twice.push((0u32, 3i64))?;
+    twice.push((0, -1))?;
+    let mut forms = List::new(rt.alloc());
+    forms.push(LinForm {
+        constant: 4,
+        terms: List::new(rt.alloc()),
+    })?;
+    forms.push(LinForm {
+        constant: 0,
+        terms: twice,
+    })?;
+    let mut facts = List::new(rt.alloc());
+    facts.push(Fact::Extent { most: 1 })?;
+    facts.push(Fact::Least { terms: forms })?;
+    let mut terms = List::new(rt.alloc());
+    terms.push((1u32, 3i64))?;
+    terms.push((1, -2))?;
+    let form = LinForm { constant: 0, terms };
+    match Facts::new(facts) {
+        Some(facts) if facts.covers(&form) => {
+            assert!(rt; upper(rt.alloc(), &facts, &form)? == Some(2));
+        }
+        _ => assert!(rt; false),
+    }
+    Ok(())
+}

@@ -1,7 +1,8 @@
 use Rattle.std.proofs.Common.{rules, ◌≡◌, ap, sym, ◌∙◌, subst, IsTrue, get_or, drop, ℕ, ℤ, pos, negsuc, ◌-ℤ◌, ◌*ℤ◌, w64, FitsSigned, to_z, of_z, arith, ◌+◌, ◌∷◌, ◌++◌, [], add-one, append_assoc}
 use Rattle.std.proofs.lemmas.Int.{ints, to_z-of_z}
 use Rattle.std.proofs.Math.Seq.{drop-cons}
-use Rattle.index_forms.specs.Forms.{in_limit, all_in, scaled}
+use Rattle.index_forms.specs.Forms.{scaled}
+use Rattle.index_forms.specs.Limit.{in_limit, all_in}
 use Rattle.index_forms.proofs.Ints.{and_right, limit_low, limit_high}
 use Rattle.index_forms.proofs.Limits.{Terms, all_in_at}
 use Rattle.index_forms.proofs.bounds.negative.Goals as goal

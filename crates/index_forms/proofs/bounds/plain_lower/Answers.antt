@@ -1,7 +1,7 @@
-use Rattle.index_forms.specs.Facts.{normal_facts}
+use Rattle.index_forms.specs.Forms.{Falls}
+use Rattle.index_forms.specs.Limit.{within}
 use Rattle.std.proofs.Common.{rules, sym, subst, IsTrue, length}
 use Rattle.index_forms.specs.declared.form.LinForm.{LinForm}
-use Rattle.index_forms.specs.Forms.{Falls, within}
 use Rattle.index_forms.proofs.Walks.{falls_scaled}
 use Rattle.index_forms.proofs.Negative.{negated_within}
 use Rattle.index_forms.proofs.Sound.{is_below}
@@ -15,4 +15,4 @@ pub plain_upper-requires-clause-within : goal.plain_upper-requires-clause-within
 plain_upper-requires-clause-within c = subst (λ (x : LinForm). IsTrue (within x)) (sym c.in_ok-turned.ensures) (negated_within c.args.f.now c.requires.within)
 
 pub returns-in-Some-clause-sound : goal.returns-in-Some-clause-sound
-returns-in-Some-clause-sound c = is_below (normal_facts c.args.facts.now) c.requires.known c.args.f.now c.turned_bound.result (search rules)
+returns-in-Some-clause-sound c = is_below c.args.facts.now c.requires.known c.args.f.now c.turned_bound.result (search rules)

@@ -1,11 +1,13 @@
-use Rattle.std.proofs.Common.{rules, IsTrue}
-use Rattle.index_forms.specs.Forms.{within, normal}
-use Rattle.index_forms.proofs.Collected.{form_below, below_form}
+use Rattle.std.proofs.Common.{sym, ◌∙◌, subst}
+use Rattle.index_forms.specs.Forms.{coefficient, collected, top, Falls}
+use Rattle.index_forms.proofs.Limits.{Terms}
+use Rattle.index_forms.proofs.Collected.{falls_below}
+use Rattle.index_forms.proofs.Gathered.{some_terms}
+use Rattle.index_forms.proofs.Sums.{falls_top}
 use Rattle.index_forms.proofs.facts.form_fits.Goals as goal
 
-pub returns : goal.returns
-returns c =
-    let w : IsTrue (within (normal c.args.f.now)) = search rules in (
-      λ h. (form_below c.args.f.now c.as_slice-terms.result.now c.args.count c.as_slice-terms.ensures (c.none_from.ensures.0 h), w),
-      λ h. c.none_from.ensures.1 (below_form c.args.f.now c.as_slice-terms.result.now c.args.count c.as_slice-terms.ensures h.0),
-    )
+pub is_below-fits-requires : goal.is_below-fits-requires
+is_below-fits-requires c =
+    let ts = c.into_vec.result.items in
+    let e = some_terms (collected ts (top ts)) c.in-Some.terms c.in-Some.ensures in
+    subst (λ (x : Terms). Falls (top x) x) (sym (c.as_slice.ensures ∙ e)) (falls_top (top ts) (collected ts (top ts)) (falls_below (coefficient ts) (top ts)))

@@ -1,0 +1,4 @@
+pub mod Rounds
+pub mod RowLaws
+pub mod Spaced
+pub mod Writes

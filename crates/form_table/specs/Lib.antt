@@ -1,0 +1,9 @@
+pub mod Entries
+pub mod Form
+pub mod PartLaws
+pub mod Parts
+pub mod Reading
+pub mod Spelling
+pub mod Texts
+pub mod Variant
+pub mod Writing

@@ -1,0 +1,13 @@
+pub mod Bodies
+pub mod Candidates
+pub mod Counts
+pub mod Fits
+pub mod Formed
+pub mod Fusions
+pub mod Nexts
+pub mod Operands
+pub mod Searching
+pub mod Shrinking
+pub mod Signs
+pub mod Splicing
+pub mod Spots

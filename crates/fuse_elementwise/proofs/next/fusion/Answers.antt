@@ -1,0 +1,27 @@
+use Rattle.std.proofs.Common.{◌≡◌, Option, ap, sym, false, subst, ◌∙◌}
+use Rattle.std.proofs.lemmas.Option.{same_Some}
+use Rattle.verified_runs.specs.Forms.{Structured, kind_of}
+use Rattle.fuse_forms.specs.Forms.{structured}
+use Rattle.fuse_elementwise.specs.Spots.{spot}
+use Rattle.fuse_elementwise.specs.Turns.{Forms}
+use Rattle.fuse_elementwise.proofs.Nexts.{same_trap}
+use Rattle.fuse_elementwise.proofs.next.fusion.Goals as goal
+
+pub returns-in-Ok-Some : goal.returns-in-Ok-Some
+returns-in-Ok-Some c =
+    let f = c.args.f.now in
+    let i = c.requires.pair in
+    let x = subst (λ (r : Option Structured). Forms f r) c.in-Ok-Some.field-0-is c.in-Ok-Some.ensures in
+    let same : i.pair ≡ x.0 = same_Some i.pair x.0 (sym i.is ∙ x.1) in (
+      x.0,
+      x.1,
+      same_trap f c.requires.passes c.args.found (structured c.args.p.now) (structured c.args.c.now) i x.0 x.1 false c.requires.no_trap,
+      x.2,
+      i.there ∙ ap spot same,
+      c.into_kind.ensures ∙ ap kind_of x.3,
+    )
+
+pub returns-in-Ok-None : goal.returns-in-Ok-None
+returns-in-Ok-None c =
+    let x = subst (λ (r : Option Structured). Forms c.args.f.now r) c.in-Ok-None.field-0-is c.in-Ok-None.ensures in
+    (x.0, x.1, same_trap c.args.f.now c.requires.passes c.args.found (structured c.args.p.now) (structured c.args.c.now) c.requires.pair x.0 x.1 false c.requires.no_trap, x.2)

@@ -1,0 +1,5 @@
+pub mod Axes
+pub mod Fitting
+pub mod Spots
+pub mod Turns
+pub mod Fused
