@@ -1,35 +1,56 @@
 -- What the code answers is what the definitions say.
-use Rattle.std.proofs.Common.{◌≡◌, ℕ, zero, suc, ◌==◌, ◌+◌, ◌<◌, ◌≤◌, true, false, List, [], ◌∷◌, ◌++◌, map, length, get_or, drop, drop-cons, add-one, append_assoc, Some, None, Result, Ok, Err, refl, ap, sym, subst, ◌∙◌, arith}
-use Rattle.std.specs.Prelude.{⊤, if◌then◌else◌}
-use Rattle.std.proofs.lemmas.Bool.{and_parts}
-use Rattle.std.proofs.lemmas.List.{drop_all}
+use Rattle.std.proofs.Common.{◌≡◌, ℕ, zero, suc, ◌==◌, ◌+◌, ◌<◌, ◌≤◌, ◌&&◌, Bool, true, false, not, List, [], ◌∷◌, ◌++◌, map, length, get_or, drop, drop-cons, add-one, append_assoc, Option, Some, None, Result, Ok, Err, refl, ap, sym, subst, ◌∙◌, arith}
+use Rattle.std.specs.Prelude.{⊤, ◌||◌, is_some, nat_lt, if◌then◌else◌}
+use Rattle.std.specs.List.{list_all}
+use Rattle.std.proofs.lemmas.Bool.{and_parts, or_parts}
+use Rattle.std.proofs.lemmas.List.{drop_all, map-append}
+use Rattle.std.proofs.lemmas.Option.{same_Some}
+use Rattle.affine_maps.specs.Permutation.{is_among}
+use Rattle.mlir_base.specs.declared.limit.Which.{Which}
+use Rattle.mlir_base.specs.declared.limit.Which.TheVariants.{Operations, Extent}
+use Rattle.mlir_ir.specs.Count.{find_in}
 use Rattle.mlir_ir.specs.declared.tree.Module.{Module}
+use Rattle.mlir_ir.specs.declared.tree.Op.{Op}
 use Rattle.mlir_ir.specs.declared.tree.OpId.{OpId}
 use Rattle.mlir_verify.specs.Rules.{IsVerified}
-use Rattle.structured_steps.specs.Steps.{Rules}
-use Rattle.structured_steps.specs.declared.rule.StepRule.TheVariants.{HandleCount}
+use Rattle.verified_runs.specs.Fresh.{fresh_value, fresh_op}
+use Rattle.structured_steps.specs.Steps.{formed, broken_of, rules_of_generalize, rules_of_interchange}
+use Rattle.structured_steps.specs.declared.rule.StepRule.{StepRule}
+use Rattle.structured_steps.specs.declared.rule.StepRule.TheVariants.{HandleCount, WrongKind}
 use Rattle.rewrite_base.specs.declared.error.StepError.{StepError}
 use Rattle.rewrite_base.specs.declared.error.StepError.TheVariants.{Rule, Limit, Memory}
 use Rattle.rewrite_base.specs.declared.made.Made.{Made}
-use Rattle.rewrite_base.specs.Answers.{Answers}
-use Rattle.rewrite_base.specs.Limits.{limit_of}
+use Rattle.rewrite_base.specs.Answers.{made_by_generalize, made_by_interchange}
+use Rattle.rewrite_base.specs.Limits.{limit_of, has_large_numbers}
+use Rattle.step_passes.specs.Answered.{Answered}
+use Rattle.step_passes.specs.Exchanging.{formed_by, made_of}
+use Rattle.step_passes.specs.Sequences as pass
+use Rattle.step_passes.specs.Steps.{generalizing, interchanging}
+use Rattle.step_passes.proofs.Natural.{generalizing_step, interchanging_step}
+use Rattle.pair_laws.specs.FuseAll.{Stop, MayTrap, LargeNumber}
+use Rattle.fuse_elementwise.specs.Fused.{fused_in, limit_by, AnswersFuse}
 use Rattle.transform_handles.specs.Handles.{Row}
 use Rattle.transform_handles.specs.Items.{matched}
+use Rattle.transform_handles.specs.Targets.{is_one_of}
 use Rattle.transform_handles.specs.declared.target.Target.{Target}
 use Rattle.transform_handles.specs.declared.target.Target.TheVariants.{Root, Function, Operation}
 use Rattle.script_read.specs.declared.script.HandleId.{HandleId}
 use Rattle.script_read.specs.declared.script.Script.{Script}
 use Rattle.script_read.specs.declared.script.Step.{Step}
 use Rattle.script_run.specs.declared.error.ScriptError.{ScriptError}
+use Rattle.script_run.specs.declared.transforms.Exchange.{Exchange}
+use Rattle.script_run.specs.declared.transforms.Exchange.TheVariants.{Generalize, Interchange}
 use Rattle.script_run.specs.declared.transforms.Transform.{Transform}
-use Rattle.script_run.specs.declared.transforms.Transform.TheVariants.{Generalize, Interchange}
-use Rattle.script_run.specs.Outcomes.{and_then, demand, Refuses, Agrees}
+use Rattle.script_run.specs.declared.transforms.Transform.TheVariants as transform
+use Rattle.script_run.specs.Outcomes.{and_then, breaks, demand, Refuses, Agrees}
 use Rattle.script_run.specs.Sessions.{SessionShape, stands_in, are_different, are_targets, opened, IsSession}
-use Rattle.script_run.specs.Steps.{StepAt, decided, stepped, operations, at_target, behind, at_each, targets_of, result_rows, with_rows, moved_on, matches, splits, transforms, after}
-use Rattle.script_run.specs.Transforms.{step_of, Adds}
+use Rattle.script_run.specs.Steps.{TargetStep, decided, operations, at_target, within, fused_as, fuse_at, behind, at_each, targets_of, result_rows, with_rows, moved_on, matches, splits, transforms, after}
+use Rattle.script_run.specs.Transforms.{step_of, target_step, exchanging_of, front, are_operations, function_stands, functions_stand}
 use Rattle.script_run.specs.Scripts.{is_built, are_built, told, unbuilt_from, go_on, reached, module_of, run, StopsAt, Runs}
-use Rattle.script_run.proofs.Kept.{IsKept, Keeps, each_gives, rest_stand, generalize_keeps, interchange_keeps, same_ok}
-use Rattle.script_run.proofs.Stepping.{matched_rows, single_rows, with_session, moves_keep}
+use Rattle.script_run.proofs.Fused.{Stays, is_fused, count_stays, still_in_range, ranged, fuses_leave}
+use Rattle.script_run.proofs.Kept.{IsKept, Keeps, rest_stand, generalize_keeps, interchange_keeps, same_ok}
+use Rattle.script_run.proofs.Named.{some_of, not_true}
+use Rattle.script_run.proofs.Stepping.{matched_rows, single_rows, with_session, moves_keep, exchange_stays}
 
 -- REFUSALS
 -- a refusal of the first part is one of the whole
@@ -43,55 +64,162 @@ refused_same Memory r q s h = tt
 refused_same (Rule rule at) r q s h = sym s ∙ h
 refused_same (Limit which) r q s h = sym s ∙ h
 
--- AT ONE OPERATION
-pub answers_agree : (rules : Rules) (i : OpId) (m formed : Module) (ops : List OpId) (r : Result (Module × Made) StepError) → Answers rules i m formed ops r → Agrees r (stepped rules i m formed ops)
-answers_agree rules i m formed ops (Ok x) h =
-    (λ j. decided i (h.0 j) (h.1 j) formed ops) ∙ sym (λ j. Ok (h.2 j, record { ops = h.3 j }))
-answers_agree rules i m formed ops (Err (Rule rule at)) h = (λ j. decided i (h.0 j) (limit_of m formed) formed ops) ∙ sym (λ j. Err (Rule rule (h.1 j)))
-answers_agree rules i m formed ops (Err (Limit which)) h = λ j. decided i (h.0 j) (h.1 j) formed ops
-answers_agree rules i m formed ops (Err Memory) h = tt
+-- ONE PASS
+abbrev made : pass.Outcome → Result (Module × Made) StepError
+made (Ok q) = Ok (q.0, record { ops = q.1 })
+made (Err e) = Err e
 
--- AT A TARGET
-pub operation_adds : (step : StepAt) (i : OpId) (m n : Module) (made : Made) (old new : List Target) → step i m ≡ Ok (n, made) → new ≡ old ++ map Operation made.ops → Adds old new (Ok n) (at_target step (Operation i) m)
-operation_adds step i m n made old new h e =
-    (λ j. behind old (and_then (h j) (λ q. Ok (operations q)))) ∙ sym (λ j. Ok (n, e j))
+abbrev as_targets : pass.Outcome → Result (Module × List Target) StepError
+as_targets (Ok q) = Ok (q.0, map Operation q.1)
+as_targets (Err e) = Err e
 
--- AT EACH TARGET
+-- what follows the operations
+abbrev ended : List Target → Result (Module × List Target) StepError → Result (Module × List Target) StepError
+ended ts r = and_then r (λ q. if are_operations ts then Ok q else breaks WrongKind)
+
+same_decided : (i : OpId) (b : Option StepRule) (l : Option Which) (m : Module) (ops : List OpId) → decided i b l m ops ≡ made (pass.decided i b l m ops)
+same_decided i (Some rule) l m ops = refl
+same_decided i None (Some which) m ops = refl
+same_decided i None None m ops = refl
+
+same_at : (what : Exchange) (i : OpId) (m : Module) → is_some (find_in i m.funcs) ≡ true → step_of what i m ≡ made (pass.exchanged_at (exchanging_of what) i m)
+same_at Generalize i m s =
+    (λ j. decided i (broken_of i rules_of_generalize m) (limit_of m (formed i (generalizing_step (fresh_op m.funcs) (fresh_value m.funcs) j) m)) (formed i (generalizing_step (fresh_op m.funcs) (fresh_value m.funcs) j) m) (made_by_generalize i m))
+    ∙ same_decided i (broken_of i rules_of_generalize m) (limit_of m (formed_by generalizing i m)) (formed_by generalizing i m) (made_by_generalize i m)
+same_at (Interchange order) i m s = by_op (some_of (find_in i m.funcs) s) where
+  by_op : (o : Op) × (find_in i m.funcs ≡ Some o) → step_of (Interchange order) i m ≡ made (pass.exchanged_at (interchanging order.now) i m)
+  by_op f =
+      (λ j. decided i (broken_of i (rules_of_interchange order.now) m) (limit_of m (formed i (interchanging_step order.now (fresh_op m.funcs) (fresh_value m.funcs) j) m))
+      (formed i (interchanging_step order.now (fresh_op m.funcs) (fresh_value m.funcs) j) m) (made_by_interchange m))
+      ∙ same_decided i (broken_of i (rules_of_interchange order.now) m) (limit_of m (formed_by (interchanging order.now) i m)) (formed_by (interchanging order.now) i m) (made_by_interchange m)
+      ∙ (λ j. made (pass.decided i (broken_of i (rules_of_interchange order.now) m) (limit_of m (formed_by (interchanging order.now) i m)) (formed_by (interchanging order.now) i m)
+      (made_of (interchanging order.now) i m (sym f.1 j))))
+
+nothing_kept : IsKept (λ m. ⊤)
+nothing_kept = record { generalize = λ m i v q s r l. tt; interchange = λ m i order v q s r l. tt; fuse = λ m n k v q f l. tt }
+
+exchange_keeps : (what : Exchange) → Keeps (λ m. ⊤) (step_of what)
+exchange_keeps Generalize = generalize_keeps (λ m. ⊤) nothing_kept
+exchange_keeps (Interchange order) = interchange_keeps (λ m. ⊤) nothing_kept order.now
+
+-- the targets that follow stand in the module that was formed
+abbrev Ready : Module → List Target → Type 0
+Ready m ts = IsVerified m × (are_targets m ts ≡ true)
+
+target_ready : (what : Exchange) (i : OpId) (ts : List Target) (m n : Module) (ops : List OpId) → Ready m (Operation i ∷ ts) → step_of what i m ≡ Ok (n, record { ops = ops }) → Ready n ts
+target_ready what i ts m n ops h d =
+    let parts = and_parts _ (are_different (Operation i ∷ ts)) h.1 in
+    let a = exchange_keeps what m i n (record { ops = ops }) h.0 (and_parts (stands_in m (Operation i)) _ parts.0).0 d in
+    (a.verified, rest_stand (λ m. ⊤) m n i ops ts a h.1)
+
+-- what was given stands first
+first_given : (ts : List Target) (ops : List OpId) (r : pass.Outcome) → behind (map Operation ops) (ended ts (as_targets r)) ≡ ended ts (as_targets (pass.behind ops r))
+first_given ts ops (Err e) = refl
+first_given ts ops (Ok q) = by_test (are_operations ts) where
+  by_test : (b : Bool) → behind (map Operation ops) (if b then Ok (q.0, map Operation q.1) else breaks WrongKind) ≡ (if b then Ok (q.0, map Operation (ops ++ q.1)) else breaks WrongKind)
+  by_test true = ap (λ (ts : List Target). Ok (q.0, ts)) (sym (map-append Operation ops q.1))
+  by_test false = refl
+
+pub in_one_pass : (what : Exchange) (ts : List Target) (m : Module) → Ready m ts →
+    at_each (at_target (step_of what)) ts m ≡ ended ts (as_targets (pass.at_each (pass.exchanged_at (exchanging_of what)) (front ts) m))
+in_one_pass what [] m h = refl
+in_one_pass what (Root ∷ ts) m h = refl
+in_one_pass what (Function k ∷ ts) m h = refl
+in_one_pass what (Operation i ∷ ts) m h = by_first (in_one_pass what ts) (pass.exchanged_at (exchanging_of what) i m) refl where
+  here : is_some (find_in i m.funcs) ≡ true
+  here = (and_parts (stands_in m (Operation i)) (list_all (stands_in m) ts) (and_parts (list_all (stands_in m) (Operation i ∷ ts)) (are_different (Operation i ∷ ts)) h.1).0).0
+
+  Again : Type 0
+  Again = (n : Module) → Ready n ts → at_each (at_target (step_of what)) ts n ≡ ended ts (as_targets (pass.at_each (pass.exchanged_at (exchanging_of what)) (front ts) n))
+
+  rest : pass.Outcome → Result (Module × List Target) StepError
+  rest r = ended ts (as_targets (pass.then_at r (λ n. pass.behind (pass.given_by r) (pass.at_each (pass.exchanged_at (exchanging_of what)) (front ts) n))))
+
+  by_answer : Again → (r : pass.Outcome) → step_of what i m ≡ made r → and_then (and_then (made r) (λ q. Ok (operations q))) (λ q. behind q.1 (at_each (at_target (step_of what)) ts q.0)) ≡ rest r
+  by_answer again (Err e) d = refl
+  by_answer again (Ok q) d = ap (behind (map Operation q.1)) (again q.0 (target_ready what i ts m q.0 q.1 h d)) ∙ first_given ts q.1 (pass.at_each (pass.exchanged_at (exchanging_of what)) (front ts) q.0)
+
+  by_first : Again → (r : pass.Outcome) → pass.exchanged_at (exchanging_of what) i m ≡ r →
+      at_each (at_target (step_of what)) (Operation i ∷ ts) m ≡ rest (pass.exchanged_at (exchanging_of what) i m)
+  by_first again r d =
+      (λ j. and_then (and_then ((same_at what i m here ∙ ap made d) j) (λ q. Ok (operations q))) (λ q. behind q.1 (at_each (at_target (step_of what)) ts q.0)))
+      ∙ by_answer again r (same_at what i m here ∙ ap made d) ∙ ap rest (sym d)
+
+-- operations among targets are operations of the module, of which none stands twice
+front_stand : (m : Module) (ts : List Target) → list_all (stands_in m) ts ≡ true → list_all (λ (i : OpId). is_some (find_in i m.funcs)) (front ts) ≡ true
+front_stand m [] h = refl
+front_stand m (Root ∷ ts) h = refl
+front_stand m (Function k ∷ ts) h = refl
+front_stand m (Operation i ∷ ts) h = let parts = and_parts (is_some (find_in i m.funcs)) (list_all (stands_in m) ts) h in λ j. parts.0 j && front_stand m ts parts.1 j
+
+front_lacks : (i : OpId) (ts : List Target) → is_one_of (Operation i) ts ≡ false → is_among i.0 (pass.numbers_of (front ts)) ≡ false
+front_lacks i [] h = refl
+front_lacks i (Root ∷ ts) h = refl
+front_lacks i (Function k ∷ ts) h = refl
+front_lacks i (Operation n ∷ ts) h = let parts = or_parts (n.0 == i.0) (is_one_of (Operation i) ts) h in λ j. parts.0 j || front_lacks i ts parts.1 j
+
+front_different : (ts : List Target) → are_different ts ≡ true → pass.are_different (front ts) ≡ true
+front_different [] h = refl
+front_different (Root ∷ ts) h = refl
+front_different (Function k ∷ ts) h = refl
+front_different (Operation i ∷ ts) h =
+    let parts = and_parts (not (is_one_of (Operation i) ts)) (are_different ts) h in
+    λ j. not (front_lacks i ts (not_true (is_one_of (Operation i) ts) parts.0) j) && front_different ts parts.1 j
+
+pub front_targets : (m : Module) (ts : List Target) → are_targets m ts ≡ true → pass.are_targets m (front ts) ≡ true
+front_targets m ts h = let parts = and_parts (list_all (stands_in m) ts) (are_different ts) h in λ j. front_stand m ts parts.0 j && front_different ts parts.1 j
+
+module _ (what : Exchange) (ts : List Target) (m : Module) (verified : IsVerified m) (stand : are_targets m ts ≡ true) where
+  abbrev Passed : pass.Outcome
+  Passed = pass.at_each (pass.exchanged_at (exchanging_of what)) (front ts) m
+
+  pub pass_gives : (n : Module) (made : Made) (given : List Target) → Passed ≡ Ok (n, made.ops) → are_operations ts ≡ true → given ≡ map Operation made.ops →
+      at_each (at_target (step_of what)) ts m ≡ Ok (n, given)
+  pass_gives n made given h all e =
+      in_one_pass what ts m (verified, stand) ∙ ap (λ (r : pass.Outcome). ended ts (as_targets r)) h ∙ (λ j. if all j then Ok (n, map Operation made.ops) else breaks WrongKind)
+      ∙ (λ j. Ok (n, sym e j))
+
+  pub pass_meets_another : (n : Module) (made : Made) → Passed ≡ Ok (n, made.ops) → are_operations ts ≡ false → at_each (at_target (step_of what)) ts m ≡ breaks WrongKind
+  pass_meets_another n made h none =
+      in_one_pass what ts m (verified, stand) ∙ ap (λ (r : pass.Outcome). ended ts (as_targets r)) h ∙ (λ j. if none j then Ok (n, map Operation made.ops) else breaks WrongKind)
+
+  pub pass_refused : (e : StepError) → Answered (Err e) Passed → Refuses e (at_each (at_target (step_of what)) ts m)
+  pass_refused Memory h = tt
+  pass_refused (Rule rule at) h = in_one_pass what ts m (verified, stand) ∙ ap (λ (r : pass.Outcome). ended ts (as_targets r)) h
+  pass_refused (Limit which) h = in_one_pass what ts m (verified, stand) ∙ ap (λ (r : pass.Outcome). ended ts (as_targets r)) h
+
+-- FUSING
+-- what the code answers for a function
+fused_answer : (k : ℕ) (m n : Module) (made : Made) (r : Result Module Stop) → r ≡ Ok n → limit_by m r ≡ None → fused_as k m r ≡ Ok (n, Function k ∷ [])
+fused_answer k m n made r d l = ap (fused_as k m) d ∙ (λ j. within ((sym (ap (limit_by m) d) ∙ l) j) n (Function k ∷ []))
+
+pub function_fused : (k : ℕ) (m n : Module) (made : Made) → AnswersFuse k m (Ok (n, made)) → fuse_at (Function k) m ≡ Ok (n, Function k ∷ [])
+function_fused k m n made h = fused_answer k m n made (fused_in k m) h.0 h.1
+
+fused_limit : (k : ℕ) (m : Module) (which : Which) (r : Result Module Stop) → limit_by m r ≡ Some which → fused_as k m r ≡ Err (Limit which)
+fused_limit k m which (Ok n) h = λ j. within (h j) n (Function k ∷ [])
+fused_limit k m which (Err (MayTrap i)) h = absurd cc
+fused_limit k m which (Err LargeNumber) h = by_test (has_large_numbers m.funcs) h where
+  by_test : (b : Bool) → (if b then Some Operations else Some Extent) ≡ Some which → ◌≡◌ {A = Result (Module × List Target) StepError} (Err (Limit (if b then Operations else Extent))) (Err (Limit which))
+  by_test true e = ap (λ (w : Which). Err (Limit w)) (same_Some Operations which e)
+  by_test false e = ap (λ (w : Which). Err (Limit w)) (same_Some Extent which e)
+
+pub function_refused : (k : ℕ) (m : Module) (e : StepError) → AnswersFuse k m (Err e) → Refuses e (fuse_at (Function k) m)
+function_refused k m (Rule rule None) h = absurd h
+function_refused k m (Rule rule (Some i)) h = ap (fused_as k m) h.1 ∙ (λ j. Err (Rule (sym h.0 j) (Some i)))
+function_refused k m (Limit which) h = fused_limit k m which (fused_in k m) h
+function_refused k m Memory h = tt
+
 behind_twice : (xs ys : List Target) (r : Result (Module × List Target) StepError) → behind xs (behind ys r) ≡ behind (xs ++ ys) r
 behind_twice xs ys (Ok q) = ap (λ (ts : List Target). Ok (q.0, ts)) (sym (append_assoc xs ys q.1))
 behind_twice xs ys (Err e) = refl
 
--- what was given stands first
-adds_more : (step : StepAt) (ts : List Target) (m : Module) (old new : List Target) (r : Result (Module × List Target) StepError) → behind old r ≡ Ok (m, new) →
-    behind old (and_then r (λ q. behind q.1 (at_each step ts q.0))) ≡ behind new (at_each step ts m)
-adds_more step ts m old new (Ok q) e =
-    behind_twice old q.1 (at_each step ts q.0) ∙ ap (λ (p : Module × List Target). behind p.1 (at_each step ts p.0)) (same_ok (q.0, old ++ q.1) (m, new) e)
-adds_more step ts m old new (Err x) e = absurd cc
-
-nothing_kept : IsKept (λ m. ⊤)
-nothing_kept = record { generalize = λ m i v q s r l. tt; interchange = λ m i order v q s r l. tt }
-
-transform_keeps : (what : Transform) → Keeps (λ m. ⊤) (step_of what)
-transform_keeps Generalize = generalize_keeps (λ m. ⊤) nothing_kept
-transform_keeps (Interchange order) = interchange_keeps (λ m. ⊤) nothing_kept order.now
-
--- the targets that follow stand in the module that was formed
-abbrev pub Ready : Module → List Target → Type 0
-Ready m ts = IsVerified m × (are_targets m ts ≡ true)
-
-rest_ready : (what : Transform) (i : OpId) (ts : List Target) (m n : Module) (old new : List Target) → Ready m (Operation i ∷ ts) →
-    (r : Result (Module × Made) StepError) → step_of what i m ≡ r → behind old (and_then r (λ q. Ok (operations q))) ≡ Ok (n, new) → Ready n ts
-rest_ready what i ts m n old new h (Err x) d e = absurd cc
-rest_ready what i ts m n old new h (Ok r) d e =
-    let parts = and_parts _ (are_different (Operation i ∷ ts)) h.1 in
-    let a = transform_keeps what m i r.0 r.1 h.0 (and_parts (stands_in m (Operation i)) _ parts.0).0 d in
-    let same = ap (λ (p : Module × List Target). p.0) (same_ok (r.0, old ++ map Operation r.1.ops) (n, new) e) in
-    subst (λ (p : Module). Ready p ts) same (a.verified, rest_stand (λ m. ⊤) m r.0 i r.1.ops ts a h.1)
-
-pub target_ready : (what : Transform) (t : Target) (ts : List Target) (m n : Module) (old new : List Target) → Ready m (t ∷ ts) → behind old (at_target (step_of what) t m) ≡ Ok (n, new) → Ready n ts
-target_ready what Root ts m n old new h e = absurd cc
-target_ready what (Function k) ts m n old new h e = absurd cc
-target_ready what (Operation i) ts m n old new h e = rest_ready what i ts m n old new h (step_of what i m) refl e
+ready_next : (t : Target) (ts : List Target) (m n : Module) → functions_stand m (t ∷ ts) ≡ true → fuse_at t m ≡ Ok (n, t ∷ []) → functions_stand n ts ≡ true
+ready_next Root ts m n h e = absurd cc
+ready_next (Operation i) ts m n h e = absurd cc
+ready_next (Function k) ts m n h e =
+    let parts = and_parts (nat_lt k (length m.funcs)) (list_all (function_stands m) ts) h in
+    still_in_range m n ts (count_stays k m n parts.0 (is_fused k m n (Function k ∷ []) e).formed) parts.1
 
 opened_at : {A : Type 0} (xs : List A) (k : ℕ) (x : A) → k < length xs → x ≡ get_or xs k x → drop k xs ≡ x ∷ drop (k + 1) xs
 opened_at xs k x h e = rw add-one (drop-cons xs k x h) ∙ ap (λ y. y ∷ drop (k + 1) xs) (sym e)
@@ -103,45 +231,44 @@ same_default (x ∷ xs) zero d e h = refl
 same_default (x ∷ xs) (suc k) d e h = same_default xs k d e (omega (arith, h))
 
 -- the loop over targets: what is left, behind what was given, is the whole
-pub record Through (what : Transform) (targets : List Target) (first m : Module) (given : List Target) (k : ℕ) : Type 0 where
-  pub whole : behind given (at_each (step_of what) (drop k targets) m) ≡ at_each (step_of what) targets first
-  pub ready : Ready m (drop k targets)
+pub record Through (targets : List Target) (first m : Module) (given : List Target) (k : ℕ) : Type 0 where
+  pub whole : behind given (at_each fuse_at (drop k targets) m) ≡ at_each fuse_at targets first
+  pub ready : functions_stand m (drop k targets) ≡ true
 
-module _ (what : Transform) (targets : List Target) (first : Module) where
+module _ (targets : List Target) (first : Module) where
   whole_is : (r : Result (Module × List Target) StepError) → behind [] r ≡ r
   whole_is (Ok q) = refl
   whole_is (Err e) = refl
 
-  pub begins : IsVerified first → are_targets first targets ≡ true → Through what targets first first [] 0
-  begins verified stand = record { whole = whole_is (at_each (step_of what) targets first); ready = (verified, stand) }
+  pub begins : are_targets first targets ≡ true → Through targets first first [] 0
+  begins stand = record { whole = whole_is (at_each fuse_at targets first); ready = ranged first targets (and_parts (list_all (stands_in first) targets) (are_different targets) stand).0 }
 
-  pub goes_on : (m n : Module) (given new : List Target) (k : ℕ) (t : Target) → k < length targets → t ≡ get_or targets k t → Through what targets first m given k →
-      Adds given new (Ok n) (at_target (step_of what) t m) → Through what targets first n new (k + 1)
-  goes_on m n given new k t l e h a =
+  pub goes_on : (m n : Module) (given : List Target) (k : ℕ) (t : Target) → k < length targets → t ≡ get_or targets k t → Through targets first m given k →
+      fuse_at t m ≡ Ok (n, t ∷ []) → Through targets first n (given ++ t ∷ []) (k + 1)
+  goes_on m n given k t l e h a =
       let here = opened_at targets k t l e in
-      let ready = subst (λ (ts : List Target). Ready m ts) here h.ready in
+      let rest = drop (k + 1) targets in
       record {
         whole =
-            sym (adds_more (step_of what) (drop (k + 1) targets) n given new (at_target (step_of what) t m) a)
-            ∙ sym (ap (λ (ts : List Target). behind given (at_each (step_of what) ts m)) here) ∙ h.whole;
-        ready = target_ready what t (drop (k + 1) targets) m n given new ready a;
+            sym (behind_twice given (t ∷ []) (at_each fuse_at rest n))
+            ∙ sym (λ j. behind given (and_then (a j) (λ r. behind r.1 (at_each fuse_at rest r.0))))
+            ∙ sym (ap (λ (ts : List Target). behind given (at_each fuse_at ts m)) here) ∙ h.whole;
+        ready = ready_next t rest m n (sym (ap (functions_stand m) here) ∙ h.ready) a;
       }
 
-  pub stops : (m : Module) (given : List Target) (k : ℕ) (t : Target) (x : StepError) → k < length targets → t ≡ get_or targets k t → Through what targets first m given k →
-      Refuses x (at_target (step_of what) t m) → Refuses x (at_each (step_of what) targets first)
+  pub stops : (m : Module) (given : List Target) (k : ℕ) (t : Target) (x : StepError) → k < length targets → t ≡ get_or targets k t → Through targets first m given k →
+      Refuses x (fuse_at t m) → Refuses x (at_each fuse_at targets first)
   stops m given k t x l e h r =
       let here = opened_at targets k t l e in
-      refused_same x (behind given (at_each (step_of what) (t ∷ drop (k + 1) targets) m)) (at_each (step_of what) targets first)
-      (sym (ap (λ (ts : List Target). behind given (at_each (step_of what) ts m)) here) ∙ h.whole)
-      (refused_first x (at_each (step_of what) (t ∷ drop (k + 1) targets) m) (λ q. Ok (q.0, given ++ q.1))
-      (refused_first x (at_target (step_of what) t m) (λ q. behind q.1 (at_each (step_of what) (drop (k + 1) targets) q.0)) r))
+      refused_same x (behind given (at_each fuse_at (t ∷ drop (k + 1) targets) m)) (at_each fuse_at targets first)
+      (sym (ap (λ (ts : List Target). behind given (at_each fuse_at ts m)) here) ∙ h.whole)
+      (refused_first x (at_each fuse_at (t ∷ drop (k + 1) targets) m) (λ q. Ok (q.0, given ++ q.1))
+      (refused_first x (fuse_at t m) (λ q. behind q.1 (at_each fuse_at (drop (k + 1) targets) q.0)) r))
 
   -- the target at hand stands in the module
-  pub target_stands : (m : Module) (given : List Target) (k : ℕ) (t : Target) → k < length targets → t ≡ get_or targets k t → Through what targets first m given k → stands_in m t ≡ true
+  pub target_stands : (m : Module) (given : List Target) (k : ℕ) (t : Target) → k < length targets → t ≡ get_or targets k t → Through targets first m given k → function_stands m t ≡ true
   target_stands m given k t l e h =
-      let ready = subst (λ (ts : List Target). Ready m ts) (opened_at targets k t l e) h.ready in
-      let stand = (and_parts _ (are_different (t ∷ drop (k + 1) targets)) ready.1).0 in
-      (and_parts (stands_in m t) _ stand).0
+      (and_parts (function_stands m t) (functions_stand m (drop (k + 1) targets)) (sym (ap (functions_stand m) (opened_at targets k t l e)) ∙ h.ready)).0
 
 -- IN A SESSION
 pub matched_session : (names : List (List ℕ)) (ts found : List Target) (results : List HandleId) (x : SessionShape) (rows : List Row) → IsSession x → found ≡ matched names ts x.module.funcs →
@@ -155,11 +282,15 @@ pub split_session : (ts : List Target) (results : List HandleId) (x : SessionSha
 split_session ts results x rows s a e =
     subst (λ (rs : List Row). IsSession (with_rows x rs)) (sym e) (with_session x (result_rows results (map (λ (t : Target). t ∷ []) ts)) s (single_rows x.module ts results a))
 
+transform_stays : (what : Transform) → Stays (λ m. ⊤) (target_step what)
+transform_stays (transform.Exchange x) = exchange_stays (λ m. ⊤) (step_of x) (exchange_keeps x)
+transform_stays transform.FuseElementwise = fuses_leave (λ m. ⊤) nothing_kept
+
 pub moved_session : (what : Transform) (ts given : List Target) (results : List HandleId) (x : SessionShape) (n : Module) (rows : List Row) → IsSession x → are_targets x.module ts ≡ true →
-    at_each (step_of what) ts x.module ≡ Ok (n, given) → rows ≡ result_rows results (given ∷ []) → IsSession (moved_on ts n rows x)
+    at_each (target_step what) ts x.module ≡ Ok (n, given) → rows ≡ result_rows results (given ∷ []) → IsSession (moved_on ts n rows x)
 moved_session what ts given results x n rows s a d e =
     subst (λ (rs : List Row). IsSession (moved_on ts n rs x)) (sym e)
-    (moves_keep (λ m. ⊤) x ts given n results s (each_gives (λ m. ⊤) (step_of what) (transform_keeps what) ts x.module n given s.0 a d)).0
+    (moves_keep (λ m. ⊤) x ts given n results s (transform_stays what ts x.module n given s.0 a d)).0
 
 pub matches_ok : (names : List (List ℕ)) (h : HandleId) (results : List HandleId) (x y : SessionShape) (ts found : List Target) (rows : List Row) → targets_of h x ≡ Ok ts →
     found ≡ matched names ts x.module.funcs → rows ≡ result_rows results (found ∷ []) → y ≡ with_rows x rows → matches names h results x ≡ Ok y
@@ -178,13 +309,13 @@ splits_count h results x ts d c =
     (λ j. and_then (d j) (λ us. and_then (demand (length us == length results) HandleCount) (λ _. Ok (with_rows x (result_rows results (map (λ (t : Target). t ∷ []) us))))))
     ∙ (λ j. and_then (demand (c j) HandleCount) (λ _. Ok (with_rows x (result_rows results (map (λ (t : Target). t ∷ []) ts)))))
 
-pub transforms_ok : (step : StepAt) (h : HandleId) (results : List HandleId) (x y : SessionShape) (ts given : List Target) (n : Module) (rows : List Row) → targets_of h x ≡ Ok ts →
+pub transforms_ok : (step : TargetStep) (h : HandleId) (results : List HandleId) (x y : SessionShape) (ts given : List Target) (n : Module) (rows : List Row) → targets_of h x ≡ Ok ts →
     at_each step ts x.module ≡ Ok (n, given) → rows ≡ result_rows results (given ∷ []) → y ≡ moved_on ts n rows x → transforms step h results x ≡ Ok y
 transforms_ok step h results x y ts given n rows d f e g =
     (λ j. and_then (d j) (λ us. and_then (at_each step us x.module) (λ r. Ok (moved_on us r.0 (result_rows results (r.1 ∷ [])) x))))
     ∙ (λ j. and_then (f j) (λ r. Ok (moved_on ts r.0 (result_rows results (r.1 ∷ [])) x))) ∙ sym (λ j. Ok ((g ∙ ap (λ (rs : List Row). moved_on ts n rs x) e) j))
 
-pub transforms_stop : (step : StepAt) (h : HandleId) (results : List HandleId) (x : SessionShape) (ts : List Target) (e : StepError) → targets_of h x ≡ Ok ts → Refuses e (at_each step ts x.module) →
+pub transforms_stop : (step : TargetStep) (h : HandleId) (results : List HandleId) (x : SessionShape) (ts : List Target) (e : StepError) → targets_of h x ≡ Ok ts → Refuses e (at_each step ts x.module) →
     Refuses e (transforms step h results x)
 transforms_stop step h results x ts e d r =
     refused_same e (and_then (at_each step ts x.module) (λ q. Ok (moved_on ts q.0 (result_rows results (q.1 ∷ [])) x))) (transforms step h results x)

@@ -31,7 +31,7 @@ pub flat : (os : List Op) (scope : Scope) (wanted : List Ty) → BodyPasses scop
 flat [] scope wanted h = tt
 flat (o ∷ os) scope wanted h = (built_kind scope wanted o h.0, flat os (scope ++ o.results) wanted h.2)
 
-nothing_inside : (i : OpId) (kind : OpKind) → is_built_kind kind ≡ true → find_inside i kind ≡ None
+pub nothing_inside : (i : OpId) (kind : OpKind) → is_built_kind kind ≡ true → find_inside i kind ≡ None
 nothing_inside i (For' var lower upper step carried shape row) b = absurd cc
 nothing_inside i (Forall' vars lower upper step shared shape row) b = absurd cc
 nothing_inside i kind b = refl

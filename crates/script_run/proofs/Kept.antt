@@ -30,11 +30,12 @@ use Rattle.rewrite_base.specs.declared.error.StepError.{StepError}
 use Rattle.rewrite_base.specs.declared.made.Made.{Made}
 use Rattle.rewrite_base.specs.Limits.{limit_of}
 use Rattle.rewrite_base.specs.Answers.{new_op, generalized_op, made_by_generalize, made_by_interchange}
+use Rattle.fuse_elementwise.specs.Fused.{fused_in}
 use Rattle.transform_handles.specs.Targets.{is_same, is_one_of}
 use Rattle.transform_handles.specs.declared.target.Target.{Target}
 use Rattle.transform_handles.specs.declared.target.Target.TheVariants.{Root, Function, Operation}
 use Rattle.script_run.specs.Sessions.{stands_in, are_different, are_targets}
-use Rattle.script_run.specs.Steps.{StepAt, decided, generalize_at, interchange_at, operations, behind, at_each}
+use Rattle.script_run.specs.Steps.{StepAt, decided, generalize_at, interchange_at, operations, behind, at_target, at_each}
 use Rattle.script_run.specs.Outcomes.{and_then}
 use Rattle.script_run.proofs.Named.{some_of, not_true, all_of, none_of, same_sym}
 use Rattle.script_run.proofs.Bodies.{other_stands, made_stands, number_below}
@@ -46,6 +47,7 @@ pub record IsKept (Q : Module → Type 0) : Type 0 where
   pub generalize : (m : Module) (i : OpId) → IsVerified m → Q m → IsSome (find_in i m.funcs) → broken_of i rules_of_generalize m ≡ None → limit_of m (generalized i m) ≡ None → Q (generalized i m)
   pub interchange : (m : Module) (i : OpId) (order : List ℕ) → IsVerified m → Q m → IsSome (find_in i m.funcs) → broken_of i (rules_of_interchange order) m ≡ None →
       limit_of m (interchanged_in i order m) ≡ None → Q (interchanged_in i order m)
+  pub fuse : (m n : Module) (k : ℕ) → IsVerified m → Q m → fused_in k m ≡ Ok n → limit_of m n ≡ None → Q n
 
 module _ (Q : Module → Type 0) where
   -- the second module verifies and keeps Q; all targets but the operation stand in it, and what its handle names is one operation, none of them
@@ -201,19 +203,19 @@ module _ (Q : Module → Type 0) where
 
   module _ (step : StepAt) (keeps : Keeps Q step) where
     abbrev Gives : List Target → Type 0
-    Gives ts = (m n : Module) (all : List Target) → IsVerified m → are_targets m ts ≡ true → at_each step ts m ≡ Ok (n, all) → Gave m n ts all
+    Gives ts = (m n : Module) (all : List Target) → IsVerified m → are_targets m ts ≡ true → at_each (at_target step) ts m ≡ Ok (n, all) → Gave m n ts all
 
     first_gives : (i : OpId) (ts : List Target) (m n : Module) (all : List Target) → Gives ts → IsVerified m → are_targets m (Operation i ∷ ts) ≡ true →
-        (r : Result (Module × Made) StepError) → step i m ≡ r → and_then (and_then r (λ q. Ok (operations q))) (λ q. behind q.1 (at_each step ts q.0)) ≡ Ok (n, all) → Gave m n (Operation i ∷ ts) all
+        (r : Result (Module × Made) StepError) → step i m ≡ r → and_then (and_then r (λ q. Ok (operations q))) (λ q. behind q.1 (at_each (at_target step) ts q.0)) ≡ Ok (n, all) → Gave m n (Operation i ∷ ts) all
     first_gives i ts m n all rest verified h (Err x) e f = absurd cc
-    first_gives i ts m n all rest verified h (Ok r) e f = by_rest (at_each step ts r.0) refl f where
+    first_gives i ts m n all rest verified h (Ok r) e f = by_rest (at_each (at_target step) ts r.0) refl f where
       parts : (list_all (stands_in m) (Operation i ∷ ts) ≡ true) × (are_different (Operation i ∷ ts) ≡ true)
       parts = and_parts (list_all (stands_in m) (Operation i ∷ ts)) (are_different (Operation i ∷ ts)) h
 
       a : After Q m i r.0 r.1.ops
       a = keeps m i r.0 r.1 verified (and_parts (stands_in m (Operation i)) (list_all (stands_in m) ts) parts.0).0 e
 
-      by_rest : (q : Result (Module × List Target) StepError) → at_each step ts r.0 ≡ q → behind (map Operation r.1.ops) q ≡ Ok (n, all) → Gave m n (Operation i ∷ ts) all
+      by_rest : (q : Result (Module × List Target) StepError) → at_each (at_target step) ts r.0 ≡ q → behind (map Operation r.1.ops) q ≡ Ok (n, all) → Gave m n (Operation i ∷ ts) all
       by_rest (Err x) d g = absurd cc
       by_rest (Ok q) d g =
           subst (λ (p : Module × List Target). Gave m p.0 (Operation i ∷ ts) p.1) (same_ok (q.0, map Operation r.1.ops ++ q.1) (n, all) g)

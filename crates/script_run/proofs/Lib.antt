@@ -2,6 +2,7 @@ pub mod Named
 pub mod Bodies
 pub mod Matched
 pub mod Kept
+pub mod Fused
 pub mod Stepping
 pub mod Running
 pub mod Meanings

@@ -30,12 +30,12 @@ use Rattle.script_run.specs.Sessions.{stands_in, are_different, are_targets}
 use Rattle.script_run.proofs.Named.{different_last, different_picked, all_picked}
 use Rattle.script_run.proofs.Bodies.{AreFlat, flat, among_found}
 
-none_inside : (kind : OpKind) (around : List Target) → is_built_kind kind ≡ true → items_inside kind around ≡ []
+pub none_inside : (kind : OpKind) (around : List Target) → is_built_kind kind ≡ true → items_inside kind around ≡ []
 none_inside (For' var lower upper step carried shape row) around b = absurd cc
 none_inside (Forall' vars lower upper step shared shape row) around b = absurd cc
 none_inside kind around b = refl
 
-abbrev the_target : Item → Target
+abbrev pub the_target : Item → Target
 the_target x = x.target
 
 -- the operations of a body
@@ -53,7 +53,7 @@ abbrev listed : ℕ → List FuncShape → List Target
 listed k [] = []
 listed k (f ∷ fs) = (Function k ∷ numbered f.body) ++ listed (k + 1) fs
 
-funcs_flat : (fs : List FuncShape) → grids.Each FuncPasses fs → grids.Each (λ (f : FuncShape). AreFlat f.body) fs
+pub funcs_flat : (fs : List FuncShape) → grids.Each FuncPasses fs → grids.Each (λ (f : FuncShape). AreFlat f.body) fs
 funcs_flat [] h = tt
 funcs_flat (f ∷ fs) h = (flat f.body f.params f.results (h.0).body, funcs_flat fs h.1)
 

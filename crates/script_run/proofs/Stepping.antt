@@ -17,13 +17,14 @@ use Rattle.transform_handles.specs.declared.target.Target.{Target}
 use Rattle.script_read.specs.declared.script.HandleId.{HandleId}
 use Rattle.script_read.specs.declared.script.Step.{Step}
 use Rattle.script_read.specs.declared.script.StepKind.{StepKind}
-use Rattle.script_read.specs.declared.script.StepKind.TheVariants.{Match, Split, Generalize, Interchange}
+use Rattle.script_read.specs.declared.script.StepKind.TheVariants.{Match, Split, Generalize, Interchange, FuseElementwise}
 use Rattle.script_run.specs.Outcomes.{and_then, demand}
 use Rattle.script_run.specs.Sessions.{SessionShape, stands_in, are_different, are_targets, are_named, IsSession}
-use Rattle.script_run.specs.Steps.{StepAt, at_each, generalize_at, interchange_at, live_or, result_rows, with_rows, moved_on, matches, splits, transforms, after_kind, after}
+use Rattle.script_run.specs.Steps.{StepAt, TargetStep, at_target, at_each, generalize_at, interchange_at, fuse_at, live_or, result_rows, with_rows, moved_on, matches, splits, transforms, after_kind, after}
 use Rattle.script_run.proofs.Named.{all_of}
 use Rattle.script_run.proofs.Matched.{matched_targets}
 use Rattle.script_run.proofs.Kept.{IsKept, Keeps, Gave, each_gives, generalize_keeps, interchange_keeps, same_ok}
+use Rattle.script_run.proofs.Fused.{Leaves, Stays, gave_leaves, fuses_leave}
 
 -- ROWS
 abbrev pub is_sound : Module → Row → Bool
@@ -102,11 +103,11 @@ module _ (Q : Module → Type 0) where
   reads_keep : (x : SessionShape) (rows : List Row) → IsSession x → list_all (is_sound x.module) rows ≡ true → GoesTo x (with_rows x rows)
   reads_keep x rows s h = (with_session x rows s h, λ q. q)
 
-  pub moves_keep : (x : SessionShape) (ts all : List Target) (n : Module) (results : List HandleId) → IsSession x → Gave Q x.module n ts all → GoesTo x (moved_on ts n (result_rows results (all ∷ [])) x)
+  pub moves_keep : (x : SessionShape) (ts all : List Target) (n : Module) (results : List HandleId) → IsSession x → Leaves Q x.module n ts all → GoesTo x (moved_on ts n (result_rows results (all ∷ [])) x)
   unfolding consumed
   moves_keep x ts all n results s g =
       let gone = λ (t : Target). is_one_of t (ts ++ inside ts x.module.funcs) in
-      let stay = rows_stay x.module n gone x.rows (λ t a d. g.others t a (or_parts (is_one_of t ts) (is_one_of t (inside ts x.module.funcs)) (sym (list_any-append (λ (u : Target). is_same u t) ts (inside ts x.module.funcs)) ∙ d)).0) s.1 in
+      let stay = rows_stay x.module n gone x.rows g.others s.1 in
       let given : list_all (are_targets n) (all ∷ []) ≡ true = λ j. (g.stand j && g.different j) && true in
       let new = new_rows n results (all ∷ []) given in
       ((g.verified, list_all-append (is_sound n) (map (left gone) x.rows) (result_rows results (all ∷ [])) ∙ (λ j. stay j && new j)), g.kept)
@@ -135,22 +136,26 @@ module _ (Q : Module → Type 0) where
       on_handle x y h (λ ts. and_then (demand (length ts == length results) HandleCount) (λ _. Ok (with_rows x (result_rows results (map (λ (t : Target). t ∷ []) ts))))) s (named x.rows h.0) refl e
       (λ ts a f. splits_by (length ts == length results) ts results x y s a f)
 
-  transforms_by : (step : StepAt) → Keeps Q step → (ts : List Target) (results : List HandleId) (x y : SessionShape) → IsSession x → are_targets x.module ts ≡ true →
+  transforms_by : (step : TargetStep) → Stays Q step → (ts : List Target) (results : List HandleId) (x y : SessionShape) → IsSession x → are_targets x.module ts ≡ true →
       (r : Result (Module × List Target) StepError) → at_each step ts x.module ≡ r → and_then r (λ q. Ok (moved_on ts q.0 (result_rows results (q.1 ∷ [])) x)) ≡ Ok y → GoesTo x y
   transforms_by step keeps ts results x y s a (Err z) d e = absurd cc
   transforms_by step keeps ts results x y s a (Ok r) d e =
-      subst (GoesTo x) (same_ok (moved_on ts r.0 (result_rows results (r.1 ∷ [])) x) y e) (moves_keep x ts r.1 r.0 results s (each_gives Q step keeps ts x.module r.0 r.1 s.0 a d))
+      subst (GoesTo x) (same_ok (moved_on ts r.0 (result_rows results (r.1 ∷ [])) x) y e) (moves_keep x ts r.1 r.0 results s (keeps ts x.module r.0 r.1 s.0 a d))
 
-  transforms_keep : (step : StepAt) → Keeps Q step → (h : HandleId) (results : List HandleId) (x y : SessionShape) → IsSession x → transforms step h results x ≡ Ok y → GoesTo x y
+  transforms_keep : (step : TargetStep) → Stays Q step → (h : HandleId) (results : List HandleId) (x y : SessionShape) → IsSession x → transforms step h results x ≡ Ok y → GoesTo x y
   transforms_keep step keeps h results x y s e =
       on_handle x y h (λ ts. and_then (at_each step ts x.module) (λ q. Ok (moved_on ts q.0 (result_rows results (q.1 ∷ [])) x))) s (named x.rows h.0) refl e
       (λ ts a f. transforms_by step keeps ts results x y s a (at_each step ts x.module) refl f)
 
+  pub exchange_stays : (step : StepAt) → Keeps Q step → Stays Q (at_target step)
+  exchange_stays step keeps ts m n all verified a e = gave_leaves Q m n ts all (each_gives Q step keeps ts m n all verified a e)
+
   kind_keeps : IsKept Q → (kind : StepKind) (results : List HandleId) (x y : SessionShape) → IsSession x → after_kind kind results x ≡ Ok y → GoesTo x y
   kind_keeps k (Match names inside) results x y s e = matches_keep names inside results x y s e
   kind_keeps k (Split h) results x y s e = splits_keep h results x y s e
-  kind_keeps k (Generalize h) results x y s e = transforms_keep generalize_at (generalize_keeps Q k) h results x y s e
-  kind_keeps k (Interchange h order) results x y s e = transforms_keep (interchange_at order) (interchange_keeps Q k order) h results x y s e
+  kind_keeps k (Generalize h) results x y s e = transforms_keep (at_target generalize_at) (exchange_stays generalize_at (generalize_keeps Q k)) h results x y s e
+  kind_keeps k (Interchange h order) results x y s e = transforms_keep (at_target (interchange_at order)) (exchange_stays (interchange_at order) (interchange_keeps Q k order)) h results x y s e
+  kind_keeps k (FuseElementwise h) results x y s e = transforms_keep fuse_at (fuses_leave Q k) h results x y s e
   kind_keeps k kind results x y s e = subst (GoesTo x) (same_ok x y e) (s, λ q. q)
 
   pub step_keeps : IsKept Q → (t : Step) (x y : SessionShape) → IsSession x → after t x ≡ Ok y → GoesTo x y

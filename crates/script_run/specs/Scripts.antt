@@ -7,7 +7,7 @@ use Rattle.rewrite_base.specs.declared.error.StepError.TheVariants.{Memory}
 use Rattle.script_read.specs.declared.script.Script.{Script}
 use Rattle.script_read.specs.declared.script.Step.{Step}
 use Rattle.script_read.specs.declared.script.StepKind.{StepKind}
-use Rattle.script_read.specs.declared.script.StepKind.TheVariants.{Match, Split, Generalize, Interchange}
+use Rattle.script_read.specs.declared.script.StepKind.TheVariants.{Match, Split, Generalize, Interchange, FuseElementwise}
 use Rattle.script_run.specs.declared.error.ScriptError.{ScriptError}
 use Rattle.script_run.specs.Sessions.{SessionShape, opened}
 use Rattle.script_run.specs.Steps.{after}
@@ -18,6 +18,7 @@ is_built (Match names inside) = true
 is_built (Split h) = true
 is_built (Generalize h) = true
 is_built (Interchange h order) = true
+is_built (FuseElementwise h) = true
 is_built _ = false
 
 abbrev pub are_built : List Step → Bool

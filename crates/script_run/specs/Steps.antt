@@ -1,17 +1,21 @@
 -- What a step does to a session: the rule or limit by which it is refused, or the session after it (Transform manual,
 -- "Transform Dialect"). A handle's targets are taken in order, each in the module that the ones before it gave.
-use Rattle.std.specs.Prelude.{ℕ, ◌==◌, List, [], ◌∷◌, ◌++◌, map, length, Option, Some, None, Result, Ok, Err}
+use Rattle.std.specs.Prelude.{ℕ, ◌==◌, List, [], ◌∷◌, ◌++◌, map, length, Option, Some, None, Result, Ok, Err, if◌then◌else◌}
 use Rattle.mlir_base.specs.declared.limit.Which.{Which}
+use Rattle.mlir_base.specs.declared.limit.Which.TheVariants.{Operations, Extent}
 use Rattle.mlir_ir.specs.declared.tree.Module.{Module}
 use Rattle.mlir_ir.specs.declared.tree.OpId.{OpId}
 use Rattle.structured_steps.specs.declared.rule.StepRule.{StepRule}
-use Rattle.structured_steps.specs.declared.rule.StepRule.TheVariants.{HandleDead, HandleCount, WrongKind}
+use Rattle.structured_steps.specs.declared.rule.StepRule.TheVariants.{HandleDead, HandleCount, WrongKind, MayTrap}
 use Rattle.structured_steps.specs.Steps.{Rules, broken_of, rules_of_generalize, generalized, rules_of_interchange, interchanged_in}
 use Rattle.rewrite_base.specs.declared.error.StepError.{StepError}
 use Rattle.rewrite_base.specs.declared.error.StepError.TheVariants.{Rule, Limit}
 use Rattle.rewrite_base.specs.declared.made.Made.{Made}
-use Rattle.rewrite_base.specs.Limits.{limit_of}
+use Rattle.rewrite_base.specs.Limits.{limit_of, has_large_numbers}
 use Rattle.rewrite_base.specs.Answers.{made_by_generalize, made_by_interchange}
+use Rattle.pair_laws.specs.FuseAll.{Stop}
+use Rattle.pair_laws.specs.FuseAll as stop
+use Rattle.fuse_elementwise.specs.Fused.{fused_in}
 use Rattle.transform_handles.specs.Items.{matched}
 use Rattle.transform_handles.specs.Handles.{Row, named, consumed}
 use Rattle.transform_handles.specs.declared.target.Target.{Target}
@@ -19,7 +23,7 @@ use Rattle.transform_handles.specs.declared.target.Target.TheVariants.{Root, Fun
 use Rattle.script_read.specs.declared.script.HandleId.{HandleId}
 use Rattle.script_read.specs.declared.script.Step.{Step}
 use Rattle.script_read.specs.declared.script.StepKind.{StepKind}
-use Rattle.script_read.specs.declared.script.StepKind.TheVariants.{Match, Split, Generalize, Interchange}
+use Rattle.script_read.specs.declared.script.StepKind.TheVariants.{Match, Split, Generalize, Interchange, FuseElementwise}
 use Rattle.script_run.specs.Outcomes.{and_then, breaks, demand}
 use Rattle.script_run.specs.Sessions.{SessionShape}
 
@@ -43,24 +47,46 @@ generalize_at i m = stepped rules_of_generalize i m (generalized i m) (made_by_g
 abbrev pub interchange_at : List ℕ → StepAt
 interchange_at order i m = stepped (rules_of_interchange order) i m (interchanged_in i order m) (made_by_interchange m)
 
--- AT TARGETS
+-- AT A TARGET
+-- the module that a step forms, and the targets that its result handles name for this one
+abbrev pub TargetStep : Type 0
+TargetStep = Target → Module → Result (Module × List Target) StepError
+
 abbrev pub operations : Module × Made → Module × List Target
 operations r = (r.0, map Operation r.1.ops)
 
--- a module or a function is no operation
-abbrev pub at_target : StepAt → Target → Module → Result (Module × List Target) StepError
+-- a step at operations: a module or a function is none
+abbrev pub at_target : StepAt → TargetStep
 at_target step Root m = breaks WrongKind
 at_target step (Function k) m = breaks WrongKind
 at_target step (Operation i) m = and_then (step i m) (λ r. Ok (operations r))
 
+-- the limit that a formed module passes, or none
+abbrev pub within : Option Which → Module → List Target → Result (Module × List Target) StepError
+within (Some which) formed given = Err (Limit which)
+within None formed given = Ok (formed, given)
+
+-- a map that needs a number beyond plus and minus 2^31 passes the limit on extents
+abbrev pub fused_as : ℕ → Module → Result Module Stop → Result (Module × List Target) StepError
+fused_as k m (Ok formed) = within (limit_of m formed) formed (Function k ∷ [])
+fused_as k m (Err (stop.MayTrap i)) = Err (Rule MayTrap (Some i))
+fused_as k m (Err stop.LargeNumber) = Err (Limit (if has_large_numbers m.funcs then Operations else Extent))
+
+-- the pairs of a function are fused until none is left, and its result is the function
+abbrev pub fuse_at : TargetStep
+fuse_at Root m = breaks WrongKind
+fuse_at (Function k) m = fused_as k m (fused_in k m)
+fuse_at (Operation i) m = Err (Rule WrongKind (Some i))
+
+-- AT TARGETS
 -- what earlier targets gave stands first
 abbrev pub behind : List Target → Result (Module × List Target) StepError → Result (Module × List Target) StepError
 behind given r = and_then r (λ q. Ok (q.0, given ++ q.1))
 
 -- at each in turn, and all that they gave
-abbrev pub at_each : StepAt → List Target → Module → Result (Module × List Target) StepError
+abbrev pub at_each : TargetStep → List Target → Module → Result (Module × List Target) StepError
 at_each step [] m = Ok (m, [])
-at_each step (t ∷ ts) m = and_then (at_target step t m) (λ r. behind r.1 (at_each step ts r.0))
+at_each step (t ∷ ts) m = and_then (step t m) (λ r. behind r.1 (at_each step ts r.0))
 
 -- IN A SESSION
 -- the targets of a handle
@@ -95,7 +121,7 @@ splits h results x =
     and_then (targets_of h x) (λ ts.
     and_then (demand (length ts == length results) HandleCount) (λ _. Ok (with_rows x (result_rows results (map (λ t. t ∷ []) ts)))))
 
-abbrev pub transforms : StepAt → HandleId → List HandleId → SessionShape → Result SessionShape StepError
+abbrev pub transforms : TargetStep → HandleId → List HandleId → SessionShape → Result SessionShape StepError
 transforms step h results x =
     and_then (targets_of h x) (λ ts.
     and_then (at_each step ts x.module) (λ r. Ok (moved_on ts r.0 (result_rows results (r.1 ∷ [])) x)))
@@ -104,8 +130,9 @@ transforms step h results x =
 abbrev pub after_kind : StepKind → List HandleId → SessionShape → Result SessionShape StepError
 after_kind (Match names inside) results x = matches names inside results x
 after_kind (Split h) results x = splits h results x
-after_kind (Generalize h) results x = transforms generalize_at h results x
-after_kind (Interchange h order) results x = transforms (interchange_at order) h results x
+after_kind (Generalize h) results x = transforms (at_target generalize_at) h results x
+after_kind (Interchange h order) results x = transforms (at_target (interchange_at order)) h results x
+after_kind (FuseElementwise h) results x = transforms fuse_at h results x
 after_kind _ results x = Ok x
 
 unfoldable pub after : Step → SessionShape → Result SessionShape StepError

@@ -10,6 +10,7 @@
 #![tactic(auto)]
 
 mod error;
+mod fusing;
 mod laws;
 mod rows;
 mod script;

@@ -4,11 +4,11 @@ ghost use Rattle.transform_handles.specs.Handles.{named};
 ghost use Rattle.script_run.specs.Outcomes.{Agrees, Becomes};
 ghost use Rattle.script_run.specs.Sessions.{opened, are_targets, IsSession};
 ghost use Rattle.script_run.specs.Steps.{targets_of, result_rows, with_rows, moved_on, at_each, matches, splits, transforms, after_kind, after};
-ghost use Rattle.script_run.specs.Transforms.{step_of};
+ghost use Rattle.script_run.specs.Transforms.{target_step};
 ghost use Rattle.script_run.specs.Scripts.{is_built};
 
 use crate::rows::{one_row, split_rows};
-use crate::transforms::Transform;
+use crate::transforms::{Exchange, Transform};
 use mlir_base::{List, Memory, Name};
 use mlir_verify::Checked;
 use rewrite_base::{StepError, StepRule};
@@ -198,7 +198,7 @@ impl Session {
     ) -> Result<(Checked, List<Target>), StepError>
         requires session { IsSession self.now }
         requires stand { are_targets self.now.module targets.now ≡ true }
-        ensures { Agrees result (at_each (step_of step.now) targets.now self.now.module) }
+        ensures { Agrees result (at_each (target_step step.now) targets.now self.now.module) }
     {
         match self.module.copy(alloc) {
             Ok(copy) => step.at_each(alloc, copy, targets),
@@ -213,7 +213,7 @@ impl Session {
         target: HandleId,
         results: &[HandleId],
     ) -> Result<(), StepError>
-        ensures { Becomes self.old self.new result (transforms (step_of step.now) target results.now self.old) }
+        ensures { Becomes self.old self.new result (transforms (target_step step.now) target results.now self.old) }
     {
         let targets = match self.targets(alloc, target) {
             Ok(targets) => targets,
@@ -248,11 +248,15 @@ impl Session {
             }
             StepKind::Split { handle } => self.split(alloc, *handle, results),
             StepKind::Generalize { target } => {
-                self.transform(alloc, &Transform::Generalize, *target, results)
+                let step = Transform::Exchange(Exchange::Generalize);
+                self.transform(alloc, &step, *target, results)
             }
             StepKind::Interchange { target, order } => {
-                let step = Transform::Interchange(order.as_slice());
+                let step = Transform::Exchange(Exchange::Interchange(order.as_slice()));
                 self.transform(alloc, &step, *target, results)
+            }
+            StepKind::FuseElementwise { target } => {
+                self.transform(alloc, &Transform::FuseElementwise, *target, results)
             }
             _ => unreachable!(),
         }
