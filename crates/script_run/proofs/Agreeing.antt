@@ -47,7 +47,7 @@ use Rattle.script_run.specs.Sessions.{SessionShape, stands_in, are_different, ar
 use Rattle.script_run.specs.Steps.{TargetStep, decided, operations, at_target, within, fused_as, fuse_at, behind, at_each, targets_of, result_rows, with_rows, moved_on, matches, splits, transforms, after}
 use Rattle.script_run.specs.Transforms.{step_of, target_step, exchanging_of, front, are_operations, function_stands, functions_stand}
 use Rattle.script_run.specs.Scripts.{is_built, are_built, told, unbuilt_from, go_on, reached, module_of, run, StopsAt, Runs}
-use Rattle.script_run.proofs.Fused.{Stays, is_fused, count_stays, still_in_range, ranged, fuses_leave}
+use Rattle.script_run.proofs.Fused.{Stays, is_fused, count_stays, still_stand, ranged, fuses_leave}
 use Rattle.script_run.proofs.Kept.{IsKept, Keeps, rest_stand, generalize_keeps, interchange_keeps, same_ok}
 use Rattle.script_run.proofs.Named.{some_of, not_true}
 use Rattle.script_run.proofs.Stepping.{matched_rows, single_rows, with_session, moves_keep, exchange_stays}
@@ -145,6 +145,25 @@ in_one_pass what (Operation i ∷ ts) m h = by_first (in_one_pass what ts) (pass
       (λ j. and_then (and_then ((same_at what i m here ∙ ap made d) j) (λ q. Ok (operations q))) (λ q. behind q.1 (at_each (at_target (step_of what)) ts q.0)))
       ∙ by_answer again r (same_at what i m here ∙ ap made d) ∙ ap rest (sym d)
 
+-- all are operations where the front has as many
+pub all_operations : (ts : List Target) → length (front ts) ≡ length ts → are_operations ts ≡ true
+all_operations [] h = refl
+all_operations (Root ∷ ts) h = absurd (omega (arith, h))
+all_operations (Function k ∷ ts) h = absurd (omega (arith, h))
+all_operations (Operation i ∷ ts) h = all_operations ts (omega (arith, h))
+
+another_there : (ts : List Target) → are_operations ts ≡ true → length (front ts) ≡ length ts
+another_there [] h = refl
+another_there (Root ∷ ts) h = absurd (let z : true ≡ false = sym h in cc)
+another_there (Function k ∷ ts) h = absurd (let z : true ≡ false = sym h in cc)
+another_there (Operation i ∷ ts) h = ap suc (another_there ts h)
+
+pub not_all_operations : (ts : List Target) → (length (front ts) ≡ length ts → ⊥) → are_operations ts ≡ false
+not_all_operations ts h = by_test (are_operations ts) refl where
+  by_test : (b : Bool) → are_operations ts ≡ b → are_operations ts ≡ false
+  by_test false e = e
+  by_test true e = absurd (h (another_there ts e))
+
 -- operations among targets are operations of the module, of which none stands twice
 front_stand : (m : Module) (ts : List Target) → list_all (stands_in m) ts ≡ true → list_all (λ (i : OpId). is_some (find_in i m.funcs)) (front ts) ≡ true
 front_stand m [] h = refl
@@ -219,7 +238,7 @@ ready_next Root ts m n h e = absurd cc
 ready_next (Operation i) ts m n h e = absurd cc
 ready_next (Function k) ts m n h e =
     let parts = and_parts (nat_lt k (length m.funcs)) (list_all (function_stands m) ts) h in
-    still_in_range m n ts (count_stays k m n parts.0 (is_fused k m n (Function k ∷ []) e).formed) parts.1
+    still_stand m n ts (count_stays k m n parts.0 (is_fused k m n (Function k ∷ []) e).formed) parts.1
 
 opened_at : {A : Type 0} (xs : List A) (k : ℕ) (x : A) → k < length xs → x ≡ get_or xs k x → drop k xs ≡ x ∷ drop (k + 1) xs
 opened_at xs k x h e = rw add-one (drop-cons xs k x h) ∙ ap (λ y. y ∷ drop (k + 1) xs) (sym e)

@@ -1,8 +1,8 @@
 -- What fusing in functions leaves of a verified module.
-use Rattle.std.proofs.Common.{◌≡◌, ℕ, zero, suc, ◌==◌, ◌+◌, ◌<◌, ◌&&◌, Bool, true, false, cond, not, List, [], ◌∷◌, ◌++◌, map, length, Option, Some, None, Result, Ok, Err, refl, ap, sym, subst, ◌∙◌, arith, eq-eqb, eqb-true}
+use Rattle.std.proofs.Common.{◌≡◌, ℕ, zero, suc, ◌==◌, ◌+◌, ◌<◌, ◌&&◌, Bool, true, false, cond, not, List, [], ◌∷◌, ◌++◌, map, length, Option, Some, None, Result, Ok, Err, refl, ap, sym, subst, ◌∙◌, arith, eq-eqb, eqb-true, ltb-true}
 use Rattle.std.specs.Prelude.{◌||◌, is_some, filter, nat_lt, slice_get, if◌then◌else◌}
 use Rattle.std.specs.List.{list_all, list_any}
-use Rattle.std.proofs.lemmas.Bool.{and_parts, or_parts}
+use Rattle.std.proofs.lemmas.Bool.{and_parts, or_parts, ne_eqb, eqb-false}
 use Rattle.std.proofs.lemmas.Option.{same_Some, none-some}
 use Rattle.std.proofs.lemmas.List.Folds.{list_any-append}
 use Rattle.mlir_base.specs.declared.limit.Which.{Which}
@@ -111,7 +111,7 @@ put_other k j g [] d = refl
 put_other zero zero g (f ∷ fs) d = absurd cc
 put_other zero (suc j) g (f ∷ fs) d = refl
 put_other (suc k) zero g (f ∷ fs) d = refl
-put_other (suc k) (suc j) g (f ∷ fs) d = put_other k j g fs d
+put_other (suc k) (suc j) g (f ∷ fs) d = put_other k j g fs (ne_eqb k j (λ e. eqb-false (suc k) (suc j) d (ap suc e)))
 
 -- what doesn't stand in the function stands in another
 stands_elsewhere : (i : OpId) (k : ℕ) (f g : FuncShape) (fs : List FuncShape) → slice_get fs k ≡ Some f → is_some (find_op i f.body) ≡ false → is_some (find_in i fs) ≡ true →
@@ -164,13 +164,13 @@ module_or d (Err z) = d
 pub ok_module : (a b : Module) → ◌≡◌ {A = Result Module Stop} (Ok a) (Ok b) → a ≡ b
 ok_module a b e = ap (module_or a) e
 
-there_is : (fs : List FuncShape) (k : ℕ) → nat_lt k (length fs) ≡ true → (f : FuncShape) × (slice_get fs k ≡ Some f)
-there_is [] k l = absurd cc
+there_is : (fs : List FuncShape) (k : ℕ) → k < length fs → (f : FuncShape) × (slice_get fs k ≡ Some f)
+there_is [] k l = absurd (omega (arith, l))
 there_is (f ∷ fs) zero l = (f, refl)
-there_is (f ∷ fs) (suc k) l = there_is fs k l
+there_is (f ∷ fs) (suc k) l = there_is fs k (omega (arith, l))
 
 is_put : (k : ℕ) (m n : Module) → nat_lt k (length m.funcs) ≡ true → fused_in k m ≡ Ok n → IsPut k m n
-is_put k m n l e = by_func (there_is m.funcs k l) where
+is_put k m n l e = by_func (there_is m.funcs k (ltb-true k (length m.funcs) l)) where
   by_form : (f : FuncShape) → slice_get m.funcs k ≡ Some f → (r : Result FuncShape Stop) → fuse_all f ≡ r → formed_by k m r ≡ Ok n → IsPut k m n
   by_form f t (Err x) d h = absurd cc
   by_form f t (Ok g) d h = record { old = f; new = g; there = t; put = ap (λ (x : Module). x.funcs) (sym (ok_module (record { funcs = with_func k g m.funcs }) n h)) }
@@ -216,13 +216,13 @@ apart_there t u ts a b = by_test (is_same t u) refl where
   by_test false e = e
   by_test true e = by_kind t u e a b
 
-pub still_in_range : (m o : Module) (ts : List Target) → length o.funcs ≡ length m.funcs → list_all (function_stands m) ts ≡ true → list_all (function_stands o) ts ≡ true
-still_function_stands m o [] l s = refl
-still_function_stands m o (Root ∷ ts) l s = still_function_stands m o ts l s
-still_function_stands m o (Operation i ∷ ts) l s = still_function_stands m o ts l s
-still_function_stands m o (Function k ∷ ts) l s =
+pub still_stand : (m o : Module) (ts : List Target) → length o.funcs ≡ length m.funcs → list_all (function_stands m) ts ≡ true → list_all (function_stands o) ts ≡ true
+still_stand m o [] l s = refl
+still_stand m o (Root ∷ ts) l s = still_stand m o ts l s
+still_stand m o (Operation i ∷ ts) l s = still_stand m o ts l s
+still_stand m o (Function k ∷ ts) l s =
     let parts = and_parts (nat_lt k (length m.funcs)) (list_all (function_stands m) ts) s in
-    λ j. (ap (nat_lt k) l ∙ parts.0) j && still_function_stands m o ts l parts.1 j
+    λ j. (ap (nat_lt k) l ∙ parts.0) j && still_stand m o ts l parts.1 j
 
 pub ranged : (m : Module) (ts : List Target) → list_all (stands_in m) ts ≡ true → list_all (function_stands m) ts ≡ true
 ranged m [] s = refl
@@ -237,7 +237,7 @@ module _ (Q : Module → Type 0) (kept : IsKept Q) where
     pub functions : list_all is_function ts ≡ true
     pub count : length n.funcs ≡ length m.funcs
     pub others : (i : OpId) → stands_in m (Operation i) ≡ true → Apart i ts m.funcs → stands_in n (Operation i) ≡ true
-    pub kept : Q m → Q n
+    pub keeps : Q m → Q n
 
   fused_first : (k : ℕ) (ts : List Target) (m o n : Module) (all : List Target) → IsVerified m → nat_lt k (length m.funcs) ≡ true → is_one_of (Function k) ts ≡ false → fused_in k m ≡ Ok o → limit_of m o ≡ None →
       FusesAll o n ts all → FusesAll m n (Function k ∷ ts) (Function k ∷ all)
@@ -254,7 +254,7 @@ module _ (Q : Module → Type 0) (kept : IsKept Q) where
             rest.others i here (λ n g a t.
             let differ : (k == n) ≡ false = apart_there (Function k) (Function n) ts alone a in
             apart n g (with_rest (k == n) (is_one_of (Function n) ts) a) (sym (put_other k n p.new m.funcs differ) ∙ ap (λ (fs : List FuncShape). slice_get fs n) (sym p.put) ∙ t));
-        kept = λ q. rest.kept (kept.fuse m o k verified q f limit);
+        keeps = λ q. rest.keeps (kept.fuse m o k verified q f limit);
       }
     where
       with_rest : (a b : Bool) → b ≡ true → (a || b) ≡ true
@@ -272,7 +272,7 @@ module _ (Q : Module → Type 0) (kept : IsKept Q) where
   fuses_all : (ts : List Target) (m n : Module) (all : List Target) → IsVerified m → list_all (function_stands m) ts ≡ true → are_different ts ≡ true → at_each fuse_at ts m ≡ Ok (n, all) → FusesAll m n ts all
   fuses_all [] m n all verified s d e =
       subst (λ (x : Module × List Target). FusesAll m x.0 [] x.1) (same_ok (m, []) (n, all) e)
-      (record { verified = verified; given = refl; functions = refl; count = refl; others = λ i s apart. s; kept = λ q. q })
+      (record { verified = verified; given = refl; functions = refl; count = refl; others = λ i s apart. s; keeps = λ q. q })
   fuses_all (Root ∷ ts) m n all verified s d e = absurd cc
   fuses_all (Operation i ∷ ts) m n all verified s d e = absurd cc
   fuses_all (Function k ∷ ts) m n all verified s d e = by_first (λ o v r. fuses_all ts o v r) (fuse_at (Function k) m) refl e where
@@ -290,7 +290,7 @@ module _ (Q : Module → Type 0) (kept : IsKept Q) where
     by_rest again o given f (Err x) h g = absurd cc
     by_rest again o given f (Ok q) h g =
         let one = fused_verifies k m o verified f.formed in
-        let more = again o q.0 q.1 one (still_function_stands m o ts (count_stays k m o parts.0 f.formed) parts.1) differ.1 h in
+        let more = again o q.0 q.1 one (still_stand m o ts (count_stays k m o parts.0 f.formed) parts.1) differ.1 h in
         subst (λ (x : Module × List Target). FusesAll m x.0 (Function k ∷ ts) x.1)
         (ap (λ (us : List Target). (q.0, us ++ q.1)) (sym f.given_is) ∙ same_ok (q.0, given ++ q.1) (n, all) g)
         (fused_first k ts m o q.0 q.1 verified parts.0 (not_true (is_one_of (Function k) ts) differ.0) f.formed f.limit more)
@@ -310,7 +310,7 @@ module _ (Q : Module → Type 0) (kept : IsKept Q) where
         others = λ t s d. still m n ts f verified t s (or_parts (is_one_of t ts) (is_one_of t (inside ts m.funcs)) (sym (list_any-append (λ (u : Target). is_same u t) ts (inside ts m.funcs)) ∙ d)).1;
         stand = ap (list_all (stands_in n)) f.given ∙ functions_stand m n ts f.count both.0 f.functions;
         different = ap are_different f.given ∙ both.1;
-        kept = f.kept;
+        kept = f.keeps;
       }
     where
       still : (m n : Module) (ts : List Target) → FusesAll m n ts all → IsVerified m → (t : Target) → stands_in m t ≡ true → is_one_of t (inside ts m.funcs) ≡ false → stands_in n t ≡ true

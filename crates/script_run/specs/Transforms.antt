@@ -36,7 +36,10 @@ front (Function k ∷ ts) = []
 front (Operation i ∷ ts) = i ∷ front ts
 
 abbrev pub are_operations : List Target → Bool
-are_operations ts = length (front ts) == length ts
+are_operations [] = true
+are_operations (Root ∷ ts) = false
+are_operations (Function k ∷ ts) = false
+are_operations (Operation i ∷ ts) = are_operations ts
 
 -- FUSING
 abbrev pub function_stands : Module → Target → Bool

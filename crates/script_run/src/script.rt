@@ -18,6 +18,7 @@ fn is_built(kind: &StepKind) -> bool
         StepKind::Split { .. } => true,
         StepKind::Generalize { .. } => true,
         StepKind::Interchange { .. } => true,
+        StepKind::FuseElementwise { .. } => true,
         _ => false,
     }
 }
