@@ -30,7 +30,8 @@ module _ (f g : FuncShape) (prints : Prints f g) where
   printable_put (k ∷ fs) zero e h = (prints.printable (subst (λ (x : FuncShape). ArePrintable (x ∷ [])) (same_Some k f e) (h.0, tt)).0, h.1)
   printable_put (k ∷ fs) (suc n) e h = (h.0, printable_put fs n e h.1)
 
-  names_put : (names : List (List ℕ)) (fs : List FuncShape) (n : ℕ) → slice_get fs n ≡ Some f → AreNew names fs → AreNew names (with_func n g fs)
+  names_put : (names : List (List ℕ)) (fs : List FuncShape) (n : ℕ) → slice_get fs n ≡ Some f →
+      AreNew names fs → AreNew names (with_func n g fs)
   names_put names [] n e h = tt
   names_put names (k ∷ fs) zero e h =
       let same : k.name ≡ g.name = ap (λ (x : FuncShape). x.name) (same_Some k f e) ∙ sym prints.name in
@@ -57,7 +58,8 @@ ok_same : (a b : Module) → formed_ok a ≡ formed_ok b → a ≡ b
 ok_same a b h = ap (λ (r : Result Module Stop). module_or a r) h
 
 module _ (f : File) (n : ℕ) (printable : IsPrintable f) (verified : IsVerified f.module) where
-  put_printable : (a b : FuncShape) → slice_get f.module.funcs n ≡ Some a → fuse_all a ≡ Ok b → IsPrintable (with_module f (record { funcs = with_func n b f.module.funcs }))
+  put_printable : (a b : FuncShape) → slice_get f.module.funcs n ≡ Some a → fuse_all a ≡ Ok b →
+      IsPrintable (with_module f (record { funcs = with_func n b f.module.funcs }))
   put_printable a b there all =
       let prints = fused_prints a b (func_there f.module.funcs n a (verified_passes f.module verified) there) all in
       let l = printable.few_ops in
@@ -71,8 +73,11 @@ module _ (f : File) (n : ℕ) (printable : IsPrintable f) (verified : IsVerified
 
   formed_printable : (formed : Module) → fused_in n f.module ≡ Ok formed → IsPrintable (with_module f formed)
   formed_printable formed h = by (slice_get f.module.funcs n) refl h where
-    by_all : (a : FuncShape) → slice_get f.module.funcs n ≡ Some a → (r : _) → fuse_all a ≡ r → formed_by n f.module r ≡ Ok formed → IsPrintable (with_module f formed)
-    by_all a q (Ok b) e k = subst (λ (m : Module). IsPrintable (with_module f m)) (ok_same (record { funcs = with_func n b f.module.funcs }) formed k) (put_printable a b q e)
+    by_all : (a : FuncShape) → slice_get f.module.funcs n ≡ Some a → (r : Result FuncShape Stop) → fuse_all a ≡ r →
+        formed_by n f.module r ≡ Ok formed → IsPrintable (with_module f formed)
+    by_all a q (Ok b) e k =
+        subst (λ (m : Module). IsPrintable (with_module f m)) (ok_same (record { funcs = with_func n b f.module.funcs }) formed k)
+        (put_printable a b q e)
     by_all a q (Err s) e k = absurd cc
 
     by : (o : Option FuncShape) → slice_get f.module.funcs n ≡ o → fused_at n f.module o ≡ Ok formed → IsPrintable (with_module f formed)

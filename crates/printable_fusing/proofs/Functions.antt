@@ -41,7 +41,8 @@ use Rattle.printable_fusing.proofs.Dropped.{Drops, drops_one, drops_next, rest_d
 use Rattle.printable_fusing.proofs.Steps.{steps_written, steps_printable, fused_written}
 
 -- the one result of a line
-line_one : (rows : List Row) (rs : Scope) (kind : OpKind) → IsPrintableLine rows rs kind → (r : ValueId × Ty) × (rs ≡ r ∷ []) × IsPrintableKind rows r.1 kind
+line_one : (rows : List Row) (rs : Scope) (kind : OpKind) → IsPrintableLine rows rs kind →
+    (r : ValueId × Ty) × (rs ≡ r ∷ []) × IsPrintableKind rows r.1 kind
 line_one rows [] kind h = absurd h
 line_one rows (r ∷ []) kind h = (r, refl, h)
 line_one rows (r ∷ (s ∷ rs)) kind h = absurd h
@@ -55,21 +56,26 @@ some_left [] e = absurd cc
 some_left (o ∷ os) e = omega arith
 
 -- a generic that passes names its dimensions alone, and captures nothing
-module _ (t : Types) (c : Constants) (wanted : List Ty) (rs : Scope) (g : Structured) (typed : is_typed t c wanted rs (kind_of g) ≡ true) where
+module _ (t : Types) (c : Constants) (wanted : List Ty) (rs : Scope) (g : Structured)
+    (typed : is_typed t c wanted rs (kind_of g) ≡ true) where
   present : list_all (λ s. names_present (length g.iterators) 0 s.op) g.payload.steps ≡ true
   unfolding is_typed
   present =
       let both = and_parts _ (is_alike (t g.outs.0) (result_type rs)) typed in
-      let generic = and_parts (length g.maps == suc (length g.ins) && (is_empty g.captured && list_all map_fits g.maps)) (is_typed_payload t c (length g.iterators) g.ins g.outs g.captured g.payload) both.0 in
+      let generic = and_parts (length g.maps == suc (length g.ins) && (is_empty g.captured && list_all map_fits g.maps))
+      (is_typed_payload t c (length g.iterators) g.ins g.outs g.captured g.payload) both.0 in
       let front = and_parts (length g.maps == suc (length g.ins)) (is_empty g.captured && list_all map_fits g.maps) generic.0 in
       let none = none_left g.captured (and_parts (is_empty g.captured) (list_all map_fits g.maps) front.1).0 in
-      let inner = and_parts (length g.ins == length g.payload.ins && list_all (λ (x : ValueId × ElemTy). is_input (t (x.0).0) (c (x.0).0) x.1) (zip g.ins g.payload.ins)) _ generic.1 in
+      let inputs = list_all (λ (x : ValueId × ElemTy). is_input (t (x.0).0) (c (x.0).0) x.1) (zip g.ins g.payload.ins) in
+      let inner = and_parts (length g.ins == length g.payload.ins && inputs) _ generic.1 in
       let output = and_parts (has_elements (t g.outs.0) g.payload.out) _ inner.1 in
       subst (λ (vs : List ValueId). list_all (λ s. names_present (length g.iterators) (length vs) s.op) g.payload.steps ≡ true) none
-      (and_parts (list_all (λ s. names_present (length g.iterators) (length g.captured) s.op) g.payload.steps) (payload_fits g.payload) output.1).0
+      (and_parts (list_all (λ s. names_present (length g.iterators) (length g.captured) s.op) g.payload.steps) (payload_fits g.payload)
+      output.1).0
 
 -- ONE PAIR
-module _ (f : FuncShape) (x : Pair) (passes : FuncPasses f) (first : first_pair f ≡ Some x) (small : has_small_maps (fused_of x) ≡ true) where
+module _ (f : FuncShape) (x : Pair) (passes : FuncPasses f) (first : first_pair f ≡ Some x)
+    (small : has_small_maps (fused_of x) ≡ true) where
   abbrev i : IsFound f.params f.body x
   i = pair_found f x first
 
@@ -88,10 +94,13 @@ module _ (f : FuncShape) (x : Pair) (passes : FuncPasses f) (first : first_pair 
       let t = type_among (scope_after f.params (x.before ++ (x.producer ∷ x.mid))) in
       let size = nat_le (suc (length g.ins)) 64 && nat_le (length g.payload.steps) 1024 in
       let all = axes_agree (axes t x.c.maps x.c.ins x.c.outs ++ axes t g.maps g.ins g.outs) in
-      and_parts (nat_le (suc (length g.ins)) 64) (nat_le (length g.payload.steps) 1024) (and_parts all size (and_parts _ (all && size) i.fitting).1).1
+      and_parts (nat_le (suc (length g.ins)) 64) (nat_le (length g.payload.steps) 1024)
+      (and_parts all size (and_parts _ (all && size) i.fitting).1).1
 
   unused : OpsReadOnly (all_but i.result) (x.mid ++ (new ∷ x.after))
-  unused = unused_rest i.result x.p x.c x.k x.m x.ds i.operand x.before x.mid x.after x.producer x.consumer i.p_kind i.c_kind (ap (uses_op i.result) (sym i.is) ∙ i.one_use)
+  unused =
+      unused_rest i.result x.p x.c x.k x.m x.ds i.operand x.before x.mid x.after x.producer x.consumer i.p_kind i.c_kind
+      (ap (uses_op i.result) (sym i.is) ∙ i.one_use)
 
   abbrev own : Op → Type 0
   own o = ReadsOnly (all_but i.result) o.kind
@@ -110,10 +119,13 @@ module _ (f : FuncShape) (x : Pair) (passes : FuncPasses f) (first : first_pair 
     p_printable = subst (IsPrintableKind m.rows i.ty) i.p_kind (subst (λ rs. IsPrintableLine m.rows rs x.producer.kind) i.defines_it line)
 
     drops_result : Drops i.result (next m x.producer).rows m.rows
-    drops_result = subst (λ rs. Drops i.result (names_after m rs x.producer.kind).rows m.rows) (sym i.defines_it) (drops_one i.result m.rows (Result m.results) i.ty)
+    drops_result =
+        subst (λ rs. Drops i.result (names_after m rs x.producer.kind).rows m.rows) (sym i.defines_it)
+        (drops_one i.result m.rows (Result m.results) i.ty)
 
-    module _ (v w : Names) (d : Drops i.result v.rows w.rows) (agree : Agree w.rows (scope_after scope x.mid)) (at : IsPrintableLine v.rows x.consumer.results x.consumer.kind)
-        (rest : ArePrintableOps (next v x.consumer) x.after) where
+    -- the consumer, where it stands
+    module _ (v w : Names) (d : Drops i.result v.rows w.rows) (agree : Agree w.rows (scope_after scope x.mid))
+        (at : IsPrintableLine v.rows x.consumer.results x.consumer.kind) (rest : ArePrintableOps (next v x.consumer) x.after) where
       one : (r : ValueId × Ty) × (x.consumer.results ≡ r ∷ []) × IsPrintableKind v.rows r.1 x.consumer.kind
       one = line_one v.rows x.consumer.results x.consumer.kind at
 
@@ -127,21 +139,22 @@ module _ (f : FuncShape) (x : Pair) (passes : FuncPasses f) (first : first_pair 
             few = (let l = leb-true (suc (length g.ins)) 64 sizes.0 in omega (arith, l));
             steps = steps_printable (length g.iterators) c_printable.few_iterators g.payload.steps
                 (present (type_among (scope_after scope x.mid)) (behind.0).constants f.results x.consumer.results g (behind.0).typed)
-                (fused_written x.p x.c x.k x.m x.ds (steps_written x.p.payload.steps p_printable.steps) (steps_written x.c.payload.steps c_printable.steps));
+                (fused_written x.p x.c x.k x.m x.ds (steps_written x.p.payload.steps p_printable.steps)
+                (steps_written x.c.payload.steps c_printable.steps));
             few_steps = leb-true (length g.payload.steps) 1024 sizes.1;
           }
 
       new_line : IsPrintableLine w.rows new.results new.kind
       new_line =
           subst (λ rs. IsPrintableLine w.rows rs (kind_of g)) (sym one.1)
-          (generic_prints w.rows (scope_after scope x.mid) agree (behind.0).constants f.results x.consumer.results (one.0).1 g (behind.0).typed (behind.0).known c_printable.result
-          (le-leb (length g.iterators) 12 c_printable.few_iterators) few)
+          (generic_prints w.rows (scope_after scope x.mid) agree (behind.0).constants f.results x.consumer.results (one.0).1 g
+          (behind.0).typed (behind.0).known c_printable.result (le-leb (length g.iterators) 12 c_printable.few_iterators) few)
 
       new_rest : ArePrintableOps w (new ∷ x.after)
       new_rest =
           closed w new x.after follows new_line
-          (rest_dropped i.result x.after (next v x.consumer) (next w new) (drops_next i.result v w x.consumer.results x.consumer.kind (kind_of g) d)
-          (each_right own x.mid (new ∷ x.after) unused).1 rest)
+          (rest_dropped i.result x.after (next v x.consumer) (next w new)
+          (drops_next i.result v w x.consumer.results x.consumer.kind (kind_of g) d) (each_right own x.mid (new ∷ x.after) unused).1 rest)
 
   appended : {A : Type 0} (xs ys : List A) → 0 < length ys → 0 < length (xs ++ ys)
   appended [] ys l = l
@@ -163,8 +176,8 @@ module _ (f : FuncShape) (x : Pair) (passes : FuncPasses f) (first : first_pair 
       (appended x.mid (x.consumer ∷ x.after) (omega arith)) (appended x.mid (new ∷ x.after) (omega arith))
       (subst (ArePrintableOps (names_in f)) i.is p.ops)
       (λ m a values line rest.
-      mid_dropped i.result x.mid (next m x.producer) m scope x.consumer x.after (new ∷ x.after) (drops_result m line) a (each_left own x.mid (new ∷ x.after) unused)
-      follows (omega arith) rest (λ v w d b at more. new_rest m line v w d b at more))
+      mid_dropped i.result x.mid (next m x.producer) m scope x.consumer x.after (new ∷ x.after) (drops_result m line) a
+      (each_left own x.mid (new ∷ x.after) unused) follows (omega arith) rest (λ v w d b at more. new_rest m line v w d b at more))
 
   pub pair_printable : IsPrintableFunc f → IsPrintableFunc (fuse_pair f x)
   pair_printable p =
@@ -199,7 +212,8 @@ then_prints f g h a b =
 all_print : (n : ℕ) (f g : FuncShape) → FuncPasses f → fuse_from n f ≡ Ok g → Prints f g
 all_print zero f g passes h = prints_same f g (same_ok f g (fuse_from zero f) refl h)
 all_print (suc n) f g passes h = by (λ e w k. all_print n e g w k) (first_pair f) refl h where
-  by : ((e : FuncShape) → FuncPasses e → fuse_from n e ≡ Ok g → Prints e g) → (o : Option Pair) → first_pair f ≡ o → fuse_next (fuse_from n) f o ≡ Ok g → Prints f g
+  by : ((e : FuncShape) → FuncPasses e → fuse_from n e ≡ Ok g → Prints e g) → (o : Option Pair) → first_pair f ≡ o →
+      fuse_next (fuse_from n) f o ≡ Ok g → Prints f g
   by again None q k = prints_same f g (same_ok f g (fuse_next (fuse_from n) f None) refl k)
   by again (Some x) q k =
       let on = goes_on (fuse_from n) f g x k in

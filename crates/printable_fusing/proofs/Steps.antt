@@ -48,7 +48,8 @@ module _ (dims : ℕ) (few : dims ≤ 12) where
   op_printable e (Captured k) h w = absurd (let l = ltb-true k 0 h in omega (arith, l))
   op_printable e op h w = tt
 
-  pub steps_printable : (ss : List PayloadStep) → list_all (λ (s : PayloadStep). names_present dims 0 s.op) ss ≡ true → AreWritten ss → AllByRecursion IsPrintableStep ss
+  pub steps_printable : (ss : List PayloadStep) → list_all (λ (s : PayloadStep). names_present dims 0 s.op) ss ≡ true → AreWritten ss →
+      AllByRecursion IsPrintableStep ss
   steps_printable [] h w = tt
   steps_printable (s ∷ ss) h w =
       let both = and_parts (names_present dims 0 s.op) (list_all (λ (s : PayloadStep). names_present dims 0 s.op) ss) h in
@@ -84,14 +85,16 @@ captured_written : (ks : List ℕ) → AreWritten (map captured_step ks)
 captured_written [] = tt
 captured_written (k ∷ ks) = (record { ty = refl; op = tt }, captured_written ks)
 
-placed_written : (c : ℕ) (to : Arg → Arg) (n : ℕ) (seen : List ℕ) (ss : List PayloadStep) → AreWritten ss → AreWritten (placed_steps c to n seen ss)
+placed_written : (c : ℕ) (to : Arg → Arg) (n : ℕ) (seen : List ℕ) (ss : List PayloadStep) → AreWritten ss →
+    AreWritten (placed_steps c to n seen ss)
 placed_written c to n seen [] h = tt
 placed_written c to n seen (s ∷ ss) h =
     let count = length (named c seen s) in
     let own = block own_index to (n + count) s.ty s.op in
     let rest = placed_steps c to (suc (n + count)) (seen ++ named c seen s) ss in
     each-append IsWritten (map captured_step (count_up (length seen) count)) (own ++ rest) (captured_written (count_up (length seen) count))
-    (each-append IsWritten own rest (block_written own_index to own_written (n + count) s.ty s.op (h.0).ty (h.0).op) (placed_written c to (suc (n + count)) (seen ++ named c seen s) ss h.1))
+    (each-append IsWritten own rest (block_written own_index to own_written (n + count) s.ty s.op (h.0).ty (h.0).op)
+    (placed_written c to (suc (n + count)) (seen ++ named c seen s) ss h.1))
 
 -- THE FUSED GENERIC
 module _ (p c : Structured) (k : ℕ) (m : MapShape) (ds : List ℕ) where
@@ -105,5 +108,6 @@ module _ (p c : Structured) (k : ℕ) (m : MapShape) (ds : List ℕ) where
   fused_written hp hc =
       placed_written (length (captured_of p c)) (placed_to (length (captured_of p c)) rest) 0 [] rest
       (each-append IsWritten (producer_steps j p.payload c.payload) (consumer_steps j p.payload c.payload)
-      (blocks_written (producer_index j.exprs) (producer_to j p.payload c.payload) (λ d n. applied_written (expr_at j.exprs d) n) (length (front j p.payload c.payload)) p.payload.steps hp)
+      (blocks_written (producer_index j.exprs) (producer_to j p.payload c.payload) (λ d n. applied_written (expr_at j.exprs d) n)
+      (length (front j p.payload c.payload)) p.payload.steps hp)
       (blocks_written own_index (consumer_to j p.payload c.payload) own_written (consumer_base j p.payload c.payload) c.payload.steps hc))
