@@ -10,6 +10,7 @@ use Rattle.script_run.proofs.Meanings.{run_keeps_functions}
 use Rattle.script_run.proofs.Kept.{IsKept}
 use Rattle.script_run.proofs.Running.{run_keeps}
 use Rattle.printable_steps.proofs.Steps.{generalized_printable, interchanged_printable}
+use Rattle.printable_fusing.proofs.Files.{fused_printable}
 use Rattle.mlir_opt.specs.Processed.{with_script}
 
 -- the functions, and that the module verifies
@@ -21,6 +22,7 @@ steps_keep_printable : (script : Option Script) → IsKept (λ m. IsPrintable (w
 steps_keep_printable script = record {
   generalize = λ m i v p there rules limit. generalized_printable (with_script script m) i p v;
   interchange = λ m i order v p there rules limit. interchanged_printable (with_script script m) i order p v;
+  fuse = λ m n k v p formed limit. fused_printable (with_script script m) k n p v formed;
 }
 
 pub script_keeps_printable : (script : Option Script) (s : Script) (m n : Module) → IsVerified m → IsPrintable (with_script script m) → run s m ≡ Ok n → IsPrintable (with_script script n)

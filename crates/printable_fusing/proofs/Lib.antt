@@ -1,0 +1,4 @@
+pub mod Steps
+pub mod Dropped
+pub mod Functions
+pub mod Files
