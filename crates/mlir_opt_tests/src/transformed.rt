@@ -124,6 +124,10 @@ step 4 wrong-kind|%b = transform.structured.match ops{[\"linalg.generic\", \"lin
 step 3 handle-count|%h, %i = transform.split_handle %g : (~) -> (~, ~)
 step 4 handle-dead|%h = transform.structured.generalize %p : (~) -> ~ %i = transform.structured.generalize %p : (~) -> ~
 step 5 handle-dead|%q = transform.structured.match ops{[\"linalg.matmul\"]} in %m : (~) -> ~ %h = transform.structured.generalize %p : (~) -> ~ %i = transform.structured.generalize %q : (~) -> ~
+ok|%f = transform.structured.match ops{[\"func.func\"]} in %m : (~) -> ~ %h = transform.apply_registered_pass \"linalg-fuse-elementwise-ops\" to %f : (~) -> ~
+step 3 wrong-kind|%h = transform.apply_registered_pass \"linalg-fuse-elementwise-ops\" to %m : (~) -> ~
+step 3 wrong-kind|%h = transform.apply_registered_pass \"linalg-fuse-elementwise-ops\" to %g : (~) -> ~
+step 5 handle-dead|%f = transform.structured.match ops{[\"func.func\"]} in %m : (~) -> ~ %h = transform.apply_registered_pass \"linalg-fuse-elementwise-ops\" to %f : (~) -> ~ %i = transform.structured.generalize %p : (~) -> ~
 step 3 unsupported|%t, %l = transform.structured.tile_using_for %g tile_sizes [2] : (~) -> (~, ~)
 step 4 unsupported|%h = transform.structured.interchange %g iterator_interchange = [0, 0] : (~) -> ~ %i = transform.structured.pack %h packed_sizes = [2] : (~) -> ~";
 
