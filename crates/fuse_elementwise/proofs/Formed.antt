@@ -14,12 +14,11 @@ use Rattle.mlir_meaning.proofs.Through.{each_left, each_right}
 use Rattle.mlir_verify.specs.Names.{ids, redefines}
 use Rattle.mlir_verify.specs.Rules.{IsVerified}
 use Rattle.verified_runs.specs.Passes.{FuncPasses}
-use Rattle.pair_laws.specs.FuseAll.{Pair, first_pair, fuse_pair, fuse_next, fuse_from, fuse_all, Stop}
-use Rattle.pair_laws.proofs.Ending.{same_ok, goes_on}
+use Rattle.pair_laws.specs.FuseAll.{fuse_all, Stop}
 use Rattle.pair_laws.proofs.Keeping.{fuse_all_keeps, fuse_all_passes}
 use Rattle.step_results.specs.Modules.{is_small_func, ModulePasses}
 use Rattle.step_results.proofs.Modules.{module_verifies, verified_module}
-use Rattle.fuse_elementwise.specs.Fused.{with_func, formed_by, fused_at, fused_in, AnswersModule, ArePaired, KeepsMeaning, FusedKeepsMeaning, KeepsSignature, FusedKeepsSignatures, FusedVerifies}
+use Rattle.fuse_elementwise.specs.Fused.{with_func, formed_by, fused_at, fused_in, AnswersModule, FusedKeepsMeaning, FusedVerifies, KeepMeanings}
 use Rattle.fuse_elementwise.specs.Turns.{AnswersFunc}
 use Rattle.fuse_elementwise.specs.declared.turn.Stopped.{Stopped}
 use Rattle.fuse_elementwise.specs.declared.turn.Stopped.TheVariants.{MayTrap, LargeNumber, Memory}
@@ -122,45 +121,21 @@ module _ (P : Module → Type 0) (n : ℕ) (m : Module) (same : P m)
 pub fused_verifies : FusedVerifies
 fused_verifies n m formed verified h = by_formed IsVerified n m verified (λ f g q e. put_verifies n m f g verified q e) formed h
 
--- EACH FUNCTION
-module _ (R : FuncShape → FuncShape → Type 0) (self : (f : FuncShape) → R f f) where
-  same_pairs : (fs : List FuncShape) → ArePaired R fs fs
-  same_pairs [] = tt
-  same_pairs (f ∷ fs) = (self f, same_pairs fs)
+-- IT MEANS THE SAME
+same_meanings : (fs : List FuncShape) → KeepMeanings fs fs
+same_meanings [] = tt
+same_meanings (f ∷ fs) = ((λ inputs typed. refl), same_meanings fs)
 
-  put_pairs : (fs : List FuncShape) (n : ℕ) (f g : FuncShape) → slice_get fs n ≡ Some f → R f g → ArePaired R fs (with_func n g fs)
-  put_pairs [] zero f g q r = absurd (none-some f q)
-  put_pairs [] (suc n) f g q r = absurd (none-some f q)
-  put_pairs (k ∷ fs) zero f g q r = (subst (λ (h : FuncShape). R h g) (sym (same_Some k f q)) r, same_pairs fs)
-  put_pairs (k ∷ fs) (suc n) f g q r = (self k, put_pairs fs n f g q r)
-
-  fused_pairs : (n : ℕ) (m formed : Module) → ((f g : FuncShape) → slice_get m.funcs n ≡ Some f → fuse_all f ≡ Ok g → R f g) →
-      fused_in n m ≡ Ok formed → ArePaired R m.funcs formed.funcs
-  fused_pairs n m formed all h =
-      by_formed (λ (x : Module). ArePaired R m.funcs x.funcs) n m (same_pairs m.funcs)
-      (λ f g q e. put_pairs m.funcs n f g q (all f g q e)) formed h
+put_keeps : (fs : List FuncShape) (n : ℕ) (f g : FuncShape) → Each FuncPasses fs → slice_get fs n ≡ Some f → fuse_all f ≡ Ok g → KeepMeanings fs (with_func n g fs)
+put_keeps [] zero f g h q e = absurd (none-some f q)
+put_keeps [] (suc n) f g h q e = absurd (none-some f q)
+put_keeps (k ∷ fs) zero f g h q e =
+    let same = same_Some k f q in ((λ inputs typed. fuse_all_keeps k g h.0 (ap fuse_all same ∙ e) inputs typed), same_meanings fs)
+put_keeps (k ∷ fs) (suc n) f g h q e = ((λ inputs typed. refl), put_keeps fs n f g h.1 q e)
 
 pub fused_keeps : FusedKeepsMeaning
 fused_keeps n m formed verified h =
-    let passes = (verified_module m verified).funcs in
-    fused_pairs KeepsMeaning (λ f inputs typed. refl) n m formed
-    (λ f g q e inputs typed. fuse_all_keeps f g (func_passes m.funcs n f passes q) e inputs typed) h
-
--- the name and the types stay
-same_signature : (f : FuncShape) → KeepsSignature f f
-same_signature f = record { name = refl; params = refl; results = refl }
-
-all_sign : (n : ℕ) (f g : FuncShape) → fuse_from n f ≡ Ok g → KeepsSignature f g
-all_sign zero f g h = subst (KeepsSignature f) (same_ok f g (fuse_from zero f) refl h) (same_signature f)
-all_sign (suc n) f g h = by (λ e k. all_sign n e g k) (first_pair f) refl h where
-  by : ((e : FuncShape) → fuse_from n e ≡ Ok g → KeepsSignature e g) → (o : Option Pair) → first_pair f ≡ o →
-      fuse_next (fuse_from n) f o ≡ Ok g → KeepsSignature f g
-  by again None q k = subst (KeepsSignature f) (same_ok f g (fuse_next (fuse_from n) f None) refl k) (same_signature f)
-  by again (Some x) q k =
-      let s = again (fuse_pair f x) (goes_on (fuse_from n) f g x k).rest in record { name = s.name; params = s.params; results = s.results }
-
-pub fused_signs : FusedKeepsSignatures
-fused_signs n m formed h = fused_pairs KeepsSignature same_signature n m formed (λ f g q e. all_sign (length f.body) f g e) h
+    by_formed (λ (x : Module). KeepMeanings m.funcs x.funcs) n m (same_meanings m.funcs) (λ f g q e. put_keeps m.funcs n f g (verified_module m verified).funcs q e) formed h
 
 -- THE CODE'S ANSWER
 pub fused_is : (n : ℕ) (m : Module) (f g : FuncShape) → slice_get m.funcs n ≡ Some f → fuse_all f ≡ Ok g → fused_in n m ≡ Ok (record { funcs = with_func n g m.funcs })

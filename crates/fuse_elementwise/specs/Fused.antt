@@ -66,28 +66,16 @@ WithinFuse m formed (Err (failed.Limit which)) = limit_of m formed ≡ Some whic
 WithinFuse m formed (Err failed.Memory) = ⊤
 
 -- THE LAWS
--- the functions of two modules, one by one
-abbrev pub ArePaired : (FuncShape → FuncShape → Type 0) → List FuncShape → List FuncShape → Type 0
-ArePaired R [] [] = ⊤
-ArePaired R [] (g ∷ gs) = ⊥
-ArePaired R (f ∷ fs) [] = ⊥
-ArePaired R (f ∷ fs) (g ∷ gs) = R f g × ArePaired R fs gs
-
--- the second means what the first does, on all inputs of its parameters' types
-abbrev pub KeepsMeaning : FuncShape → FuncShape → Type 0
-KeepsMeaning f g = (inputs : List TensorShape) → AreOf (types_of f.params) inputs → meaning g inputs ≡ meaning f inputs
+-- each function means what it meant, on all inputs of its parameters' types
+abbrev pub KeepMeanings : List FuncShape → List FuncShape → Type 0
+KeepMeanings [] [] = ⊤
+KeepMeanings [] (g ∷ gs) = ⊥
+KeepMeanings (f ∷ fs) [] = ⊥
+KeepMeanings (f ∷ fs) (g ∷ gs) =
+    ((inputs : List TensorShape) → AreOf (types_of f.params) inputs → meaning g inputs ≡ meaning f inputs) × KeepMeanings fs gs
 
 abbrev pub FusedKeepsMeaning : Type 0
-FusedKeepsMeaning = (n : ℕ) (m formed : Module) → IsVerified m → fused_in n m ≡ Ok formed → ArePaired KeepsMeaning m.funcs formed.funcs
-
--- the second has the name and the types of the first
-pub record KeepsSignature (f g : FuncShape) : Type 0 where
-  pub name : g.name ≡ f.name
-  pub params : g.params ≡ f.params
-  pub results : g.results ≡ f.results
-
-abbrev pub FusedKeepsSignatures : Type 0
-FusedKeepsSignatures = (n : ℕ) (m formed : Module) → fused_in n m ≡ Ok formed → ArePaired KeepsSignature m.funcs formed.funcs
+FusedKeepsMeaning = (n : ℕ) (m formed : Module) → IsVerified m → fused_in n m ≡ Ok formed → KeepMeanings m.funcs formed.funcs
 
 abbrev pub FusedVerifies : Type 0
 FusedVerifies = (n : ℕ) (m formed : Module) → IsVerified m → fused_in n m ≡ Ok formed → IsVerified formed

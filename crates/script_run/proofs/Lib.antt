@@ -8,3 +8,4 @@ pub mod Running
 pub mod Meanings
 pub mod Built
 pub mod Agreeing
+pub mod Exchanged
