@@ -68,13 +68,3 @@ stays f g m n whole e none q h = sym h ∙ (λ j. fuse_from (e j) f) ∙ ap (fus
 
 pub nothing_left : (f : FuncShape) (m : ℕ) (whole : Result FuncShape Stop) → m ≡ 0 → fuse_from m f ≡ whole → whole ≡ Ok f
 nothing_left f m whole e h = sym h ∙ (λ j. fuse_from (e j) f)
-
--- ONE FUNCTION
-pub if_ok : {A E : Type 0} (r : Result A E) (P Q : A → Type 0) → ((a : A) → P a → Q a) → IfOk r P → IfOk r Q
-if_ok (Ok a) P Q f h = f a h
-if_ok (Err e) P Q f h = h
-
-pub each_sole : (P : FuncShape → Type 0) (fs os : List FuncShape) (f : FuncShape) → os ≡ fs → length fs ≡ 1 → f ≡ get_or os 0 f → P f → Each P fs
-each_sole P [] os f e l q h = tt
-each_sole P (g ∷ []) os f e l q h = (subst P (q ∙ (λ j. get_or (e j) 0 f)) h, tt)
-each_sole P (g ∷ k ∷ fs) os f e l q h = absurd (omega (arith, l))

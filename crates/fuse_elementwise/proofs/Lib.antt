@@ -2,10 +2,13 @@ pub mod Bodies
 pub mod Candidates
 pub mod Counts
 pub mod Fits
+pub mod Fitted
 pub mod Formed
 pub mod Fusions
+pub mod Going
 pub mod Nexts
 pub mod Operands
+pub mod Remaining
 pub mod Searching
 pub mod Shrinking
 pub mod Signs

@@ -1,5 +1,5 @@
 -- The first pair by its places.
-use Rattle.std.proofs.Common.{◌≡◌, ℕ, suc, ◌+◌, Bool, true, false, List, [], ◌∷◌, ◌++◌, length, Option, Some, None, refl, ap, sym, subst, ◌∙◌, append_assoc, length-append}
+use Rattle.std.proofs.Common.{◌≡◌, ℕ, suc, ◌+◌, ◌<◌, ◌≤◌, Bool, true, false, List, [], ◌∷◌, ◌++◌, length, Option, Some, None, refl, ap, sym, subst, ◌∙◌, arith, append_assoc, length-append}
 use Rattle.std.specs.Prelude.{slice_get, option_map}
 use Rattle.std.specs.List.{list_all}
 use Rattle.std.specs.Option.{option_and_then}
@@ -9,6 +9,7 @@ use Rattle.affine_maps.specs.Shape.{MapShape}
 use Rattle.mlir_ir.specs.Shape.{FuncShape}
 use Rattle.mlir_ir.specs.declared.tree.Op.{Op}
 use Rattle.mlir_ir.specs.declared.tree.OpId.{OpId}
+use Rattle.mlir_ir.specs.declared.tree.ValueId.{ValueId}
 use Rattle.mlir_meaning.specs.Grids.{Each}
 use Rattle.mlir_verify.specs.Place.{type_among}
 use Rattle.payload_laws.specs.Known.{may_trap}
@@ -24,9 +25,11 @@ use Rattle.pair_laws.proofs.Present.{each_of}
 use Rattle.pair_laws.proofs.Rules.{typed_parts}
 use Rattle.fuse_forms.specs.Forms.{GenericFits}
 use Rattle.fuse_elementwise.specs.declared.found.Found.{Found}
-use Rattle.fuse_elementwise.specs.Spots.{spot, first_spot}
-use Rattle.fuse_elementwise.specs.Turns.{Forms, IsPair}
+use Rattle.fuse_elementwise.specs.Spots.{spot, first_spot, resumed}
+use Rattle.fuse_elementwise.specs.Turns.{Forms, IsChange, IsPair}
+use Rattle.fuse_elementwise.specs.declared.turn.Change.{Change}
 use Rattle.fuse_elementwise.proofs.Candidates.{fused_here}
+use Rattle.fuse_elementwise.proofs.Fusions.{spot_within}
 use Rattle.fuse_elementwise.proofs.Spots.{same_spot}
 
 pub of_spot : (f : FuncShape) (found : Found) → Some found ≡ first_spot f → (x : Pair) × (first_pair f ≡ Some x) × (found ≡ spot x)
@@ -129,6 +132,35 @@ module _ (f : FuncShape) (passes : FuncPasses f) (found : Found) (p c : Structur
   same_trap x e b h =
       let same : x ≡ i.pair = same_Some x i.pair (sym e ∙ i.is) in
       (λ j. may_trap ((ap (λ (y : Pair). y.p) same ∙ sym i.producer) j).payload) ∙ h
+
+-- THE CONSUMER'S PLACE
+module _ (f : FuncShape) (found : Found) (p c : Structured) (i : IsPair f found p c) where
+  pub behind_there : 0 < found.consumer
+  behind_there = subst (λ (s : Found). 0 < s.consumer) (sym i.there) (let l : 0 < length i.pair.before + suc (length i.pair.mid) = omega arith in l)
+
+  pub below_there : found.consumer ≤ length f.body
+  below_there = let l = spot_within f i.pair i.is found i.there in omega (arith, l)
+
+  value_there : slice_get c.ins found.operand ≡ slice_get i.pair.c.ins i.pair.k
+  value_there = λ j. slice_get (i.consumer j).ins (i.there j).operand
+
+  pub no_value : None ≡ slice_get c.ins found.operand → ⊥
+  no_value h = let w = pair_found f i.pair i.is in none-some w.result (h ∙ value_there ∙ w.operand)
+
+  resumed_there : (x : Pair) → first_pair f ≡ Some x → (from : ℕ) → from ≡ resumed f found p → from ≡ resumed f (spot x) x.p
+  resumed_there x e from h =
+      let same : i.pair ≡ x = same_Some i.pair x (sym i.is ∙ e) in
+      h ∙ (λ j. resumed f (i.there j) (i.producer j)) ∙ (λ j. resumed f (spot (same j)) (same j).p)
+
+  pub change_there : (x : Pair) → first_pair f ≡ Some x → (change : Change) (gone : ValueId) → change ≡ record { from = resumed f found p; outs = p.outs; gone = gone } →
+      Some gone ≡ slice_get c.ins found.operand → IsChange f x change
+  change_there x e change gone h k =
+      let same : i.pair ≡ x = same_Some i.pair x (sym i.is ∙ e) in
+      record {
+        from = (λ j. (h j).from) ∙ resumed_there x e (resumed f found p) refl;
+        outs = (λ j. (h j).outs) ∙ (λ j. (i.producer j).outs) ∙ (λ j. (same j).p.outs);
+        gone = (λ j. slice_get (sym same j).c.ins (sym same j).k) ∙ sym value_there ∙ sym k ∙ (λ j. Some (sym h j).gone);
+      }
 
 -- WHAT CAN'T BE
 pub none_there : (f : FuncShape) (found : Found) → Some found ≡ first_spot f → None ≡ option_and_then (λ (o : Op). as_generic o.kind) (slice_get f.body found.producer) → ⊥

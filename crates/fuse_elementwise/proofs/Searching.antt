@@ -1,5 +1,5 @@
 -- The first pair, by walks along the body.
-use Rattle.std.proofs.Common.{◌≡◌, ℕ, zero, suc, ◌+◌, ◌<◌, ◌==◌, ◌&&◌, Bool, true, false, List, [], ◌∷◌, ◌++◌, take, drop, length, get_or, Option, Some, None, refl, ap, sym, subst, ◌∙◌, arith, append_assoc}
+use Rattle.std.proofs.Common.{◌≡◌, ℕ, zero, suc, ◌+◌, ◌<◌, ◌≤◌, ◌==◌, ◌&&◌, Bool, true, false, List, [], ◌∷◌, ◌++◌, take, drop, length, get_or, Option, Some, None, refl, ap, sym, subst, ◌∙◌, arith, append_assoc}
 use Rattle.std.specs.Prelude.{slice_get, option_map, is_some}
 use Rattle.std.specs.Option.{option_and_then}
 use Rattle.std.proofs.lemmas.Option.{same_Some, none-some}
@@ -212,3 +212,13 @@ module _ (f : FuncShape) (os : List Op) (same : os ≡ f.body) (i : ℕ) (o : Op
 
   pub op_ends : (x : Found) → Some x ≡ here → spot_from (scope_before f i) f.body (take i f.body) (drop i f.body) ≡ first_spot f → Some x ≡ first_spot f
   op_ends x h q = (λ j. first (h j) next) ∙ sym steps ∙ q
+
+-- past the end
+gone : {A : Type 0} (xs : List A) (i : ℕ) → length xs ≤ i → drop i xs ≡ []
+gone [] zero l = refl
+gone [] (suc i) l = refl
+gone (x ∷ xs) zero l = absurd (omega (arith, l))
+gone (x ∷ xs) (suc i) l = gone xs i (omega (arith, l))
+
+pub none_after : (f : FuncShape) (i : ℕ) → length f.body ≤ i → spot_from (scope_before f i) f.body (take i f.body) (drop i f.body) ≡ first_spot f → None ≡ first_spot f
+none_after f i l q = (λ j. spot_from (scope_before f i) f.body (take i f.body) (sym (gone f.body i l) j)) ∙ q

@@ -73,7 +73,7 @@ module _ (t : Types) (body earlier : List Op) (o : Op) (after : List Op) (c : St
   among_same k (v ∷ vs) =
       first-map spot (pair_at t body earlier o after c k v) (pair_among t body earlier o after c (suc k) vs) ∙ (λ j. first (at_same k v j) (among_same (suc k) vs j))
 
-of_same : (t : Types) (body earlier : List Op) (o : Op) (after : List Op) (r : Option Structured) → option_map spot (pair_of t body earlier o after r) ≡ spot_of t body earlier r
+pub of_same : (t : Types) (body earlier : List Op) (o : Op) (after : List Op) (r : Option Structured) → option_map spot (pair_of t body earlier o after r) ≡ spot_of t body earlier r
 of_same t body earlier o after None = refl
 of_same t body earlier o after (Some c) = among_same t body earlier o after c 0 c.ins
 

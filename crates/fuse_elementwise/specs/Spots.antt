@@ -1,8 +1,9 @@
 -- Where the first pair stands: the places of its operations in the body, the operand, and the dimensions that the
 -- producer's output map takes.
-use Rattle.std.specs.Prelude.{◌≡◌, ℕ, suc, ◌+◌, ◌==◌, ◌&&◌, Bool, List, [], ◌∷◌, ◌++◌, length, slice_get, Option, Some, None, option_map, if◌then◌else◌}
+use Rattle.std.specs.Prelude.{◌≡◌, ℕ, suc, ◌+◌, ◌-◌, ◌==◌, ◌&&◌, Bool, is_some, take, drop, List, [], ◌∷◌, ◌++◌, length, slice_get, Option, Some, None, option_map, if◌then◌else◌}
 use Rattle.std.specs.Option.{option_and_then}
 use Rattle.affine_maps.specs.Shape.{MapShape}
+use Rattle.mlir_edits.specs.Places.{scope_before}
 use Rattle.mlir_ir.specs.Count.{first, uses_op}
 use Rattle.mlir_ir.specs.Shape.{FuncShape}
 use Rattle.mlir_ir.specs.declared.tree.Op.{Op}
@@ -61,6 +62,25 @@ spot_from scope body earlier (o ∷ os) =
 -- in tree order, then in operand order
 abbrev pub first_spot : FuncShape → Option Found
 first_spot f = spot_from f.params f.body [] f.body
+
+-- how often each value is used in a body
+abbrev pub IsCounted : (ℕ → ℕ) → List Op → Type 0
+IsCounted counts body = (v : ValueId) → counts v.0 ≡ uses_op v body
+
+-- WHERE THE SEARCH GOES ON
+-- no pair stands before place n
+abbrev pub IsSearched : FuncShape → ℕ → Type 0
+IsSearched f n = spot_from (scope_before f n) f.body (take n f.body) (drop n f.body) ≡ first_spot f
+
+-- fusing takes one use of the value that the producer's output starts from. Where a generic defines that value and one
+-- use is left, an earlier consumer may form a pair anew.
+abbrev pub reopens : List Op → List Op → ValueId → Bool
+reopens body earlier v =
+    (uses_op v body == 2) && is_some (option_and_then (λ (d : ℕ × Op). as_generic d.1.kind) (defined_in v earlier))
+
+-- elsewhere no consumer before the one that was fused has a pair
+abbrev pub resumed : FuncShape → Found → Structured → ℕ
+resumed f x p = if reopens f.body (take x.consumer f.body) p.outs then 0 else x.consumer - 1
 
 -- two generics of which one uses the other's result by operand k
 abbrev pub Meet : Types → Structured → Structured → ℕ → Type 0

@@ -1,6 +1,6 @@
 //! The first pair of a function.
 
-ghost use Rattle.std.specs.Prelude.{◌≡◌, ◌==◌, ◌&&◌, ◌∷◌, [], is_some, length, take, slice_get, Some, option_map, option_copied, IfOk};
+ghost use Rattle.std.specs.Prelude.{◌≡◌, ◌==◌, ◌&&◌, is_some, length, take, slice_get, Some, option_map, option_copied, IfOk};
 ghost use Rattle.std.specs.Option.{option_and_then};
 ghost use Rattle.mlir_edits.specs.Places.{scope_before};
 ghost use Rattle.mlir_ir.specs.Count.{uses_op};
@@ -10,7 +10,8 @@ ghost use Rattle.pair_laws.specs.FuseAll.{as_generic, defined_as, fits};
 ghost use Rattle.pair_laws.specs.Pairs.{fused_op};
 ghost use Rattle.fuse_forms.specs.Forms.{structured};
 ghost use Rattle.fuse_elementwise.specs.Fitting.{AreFused};
-ghost use Rattle.fuse_elementwise.specs.Spots.{defined_in, first_spot, spot_among, spot_at, spot_of, spotted, spotted_if, Meet};
+ghost use Rattle.fuse_elementwise.specs.Spots.{defined_in, first_spot, spot_among, spot_at, spot_of, spotted, spotted_if, IsCounted, IsSearched, Meet};
+ghost use Rattle.use_counts.specs.Counts.{count_in};
 
 use crate::fitting::fits;
 use crate::found::Found;
@@ -19,14 +20,15 @@ use crate::producing::produces;
 use affine_maps::AffineMap;
 use fuse_forms::Generic;
 use mlir_base::{List, Memory};
-use mlir_ir::{Func, Module, Op, Ty, ValueId, uses};
+use mlir_ir::{Func, Op, Ty, ValueId};
 use std::alloc::Global;
+use use_counts::UseCounts;
 
 /// An operation and its place.
 #[derive(Clone, Copy)]
-struct Defined<'a> {
-    place: usize,
-    op: &'a Op,
+pub(crate) struct Defined<'a> {
+    pub place: usize,
+    pub op: &'a Op,
 }
 
 fn defines(results: &[(ValueId, Ty)], v: ValueId) -> bool
@@ -39,7 +41,7 @@ fn defines(results: &[(ValueId, Ty)], v: ValueId) -> bool
 }
 
 /// The first operation that defines this value alone.
-fn definer<'a>(ops: &'a [Op], v: ValueId) -> Option<Defined<'a>>
+pub(crate) fn definer<'a>(ops: &'a [Op], v: ValueId) -> Option<Defined<'a>>
     ensures { option_map (λ d. (d.place, d.op.now)) result ≡ defined_in v ops.now }
 {
     for (place, op) in ops.iter().enumerate() {
@@ -50,11 +52,11 @@ fn definer<'a>(ops: &'a [Op], v: ValueId) -> Option<Defined<'a>>
     None
 }
 
-fn is_used_once(w: &Module, f: &Func, v: ValueId) -> bool
-    requires { w.now.funcs ≡ f.now ∷ [] }
+fn is_used_once(counts: &UseCounts, f: &Func, v: ValueId) -> bool
+    requires { IsCounted (count_in counts.now) f.now.body }
     ensures { result ≡ (uses_op v f.now.body == 1) }
 {
-    uses(w, v) == 1
+    counts.of(v) == 1
 }
 
 pub(crate) fn map_at(maps: &[AffineMap], k: usize) -> Option<&AffineMap>
@@ -66,7 +68,7 @@ pub(crate) fn map_at(maps: &[AffineMap], k: usize) -> Option<&AffineMap>
 /// The pair of a producer and a consumer, whose operand `k` with the map `m` is the value that the producer defines.
 fn pair_with(
     alloc: Global,
-    w: &Module,
+    counts: &UseCounts,
     f: &Func,
     consumer: usize,
     c: &Generic,
@@ -77,11 +79,11 @@ fn pair_with(
     m: &AffineMap,
     dims: List<u32>,
 ) -> Result<Option<Found>, Memory>
-    requires alone { w.now.funcs ≡ f.now ∷ [] }
+    requires counted { IsCounted (count_in counts.now) f.now.body }
     requires fused { AreFused (type_among (scope_before f.now consumer)) (structured p.now) (structured c.now) k m.now dims }
     ensures { IfOk result (λ r. r ≡ spotted_if ((uses_op v f.now.body == 1) && fits (type_among (scope_before f.now consumer)) (structured c.now) (fused_op (structured p.now) (structured c.now) k m.now dims)) (record { producer = producer; consumer = consumer; operand = k; dims = dims })) }
 {
-    if !is_used_once(w, f, v) {
+    if !is_used_once(counts, f, v) {
         return Ok(None);
     }
     if fits(alloc, f, consumer, p, c, k, m, dims.as_slice())? {
@@ -99,7 +101,7 @@ fn pair_with(
 /// The pair of the generic at a place and a consumer, whose operand `k` is the value that it defines.
 fn pair_of_places(
     alloc: Global,
-    w: &Module,
+    counts: &UseCounts,
     f: &Func,
     consumer: usize,
     c: &Generic,
@@ -108,7 +110,7 @@ fn pair_of_places(
     producer: usize,
     p: &Generic,
 ) -> Result<Option<Found>, Memory>
-    requires alone { w.now.funcs ≡ f.now ∷ [] }
+    requires counted { IsCounted (count_in counts.now) f.now.body }
     requires meet { Meet (type_among (scope_before f.now consumer)) (structured p.now) (structured c.now) k }
     ensures { IfOk result (λ r. r ≡ spotted (type_among (scope_before f.now consumer)) f.now.body (structured c.now) k v producer consumer (structured p.now)) }
 {
@@ -116,7 +118,7 @@ fn pair_of_places(
         return Ok(None);
     };
     match map_at(c.input_maps(), k as usize) {
-        Some(m) => pair_with(alloc, w, f, consumer, c, k, v, producer, p, m, dims),
+        Some(m) => pair_with(alloc, counts, f, consumer, c, k, v, producer, p, m, dims),
         None => Ok(None),
     }
 }
@@ -124,14 +126,14 @@ fn pair_of_places(
 /// The pair of a consumer by its operand `k`.
 fn pair_at(
     alloc: Global,
-    w: &Module,
+    counts: &UseCounts,
     f: &Func,
     consumer: usize,
     c: &Generic,
     k: u32,
     v: ValueId,
 ) -> Result<Option<Found>, Memory>
-    requires alone { w.now.funcs ≡ f.now ∷ [] }
+    requires counted { IsCounted (count_in counts.now) f.now.body }
     requires passes { FuncPasses f.now }
     requires there { option_and_then (λ o. as_generic o.kind) (slice_get f.now.body consumer) ≡ Some (structured c.now) }
     requires operand { slice_get c.now.ins.now k ≡ Some v }
@@ -142,7 +144,7 @@ fn pair_at(
         return Ok(None);
     };
     match as_generic(&defined.op.kind) {
-        Some(p) => pair_of_places(alloc, w, f, consumer, c, k, v, defined.place, &p),
+        Some(p) => pair_of_places(alloc, counts, f, consumer, c, k, v, defined.place, &p),
         None => Ok(None),
     }
 }
@@ -150,12 +152,12 @@ fn pair_at(
 /// The first pair of a consumer.
 fn pair_among(
     alloc: Global,
-    w: &Module,
+    counts: &UseCounts,
     f: &Func,
     consumer: usize,
     c: &Generic,
 ) -> Result<Option<Found>, Memory>
-    requires alone { w.now.funcs ≡ f.now ∷ [] }
+    requires counted { IsCounted (count_in counts.now) f.now.body }
     requires passes { FuncPasses f.now }
     requires there { option_and_then (λ o. as_generic o.kind) (slice_get f.now.body consumer) ≡ Some (structured c.now) }
     ensures { IfOk result (λ r. r ≡ spot_among (type_among (scope_before f.now consumer)) f.now.body (take consumer f.now.body) (structured c.now) 0 c.now.ins.now) }
@@ -165,7 +167,7 @@ fn pair_among(
         if k > u32::MAX as usize {
             return Err(Memory);
         }
-        match pair_at(alloc, w, f, consumer, c, k as u32, *v) {
+        match pair_at(alloc, counts, f, consumer, c, k as u32, *v) {
             Ok(Some(found)) => return Ok(Some(found)),
             Ok(None) => {}
             Err(e) => return Err(e),
@@ -177,31 +179,38 @@ fn pair_among(
 /// The first pair of the operation at a place.
 fn pair_of(
     alloc: Global,
-    w: &Module,
+    counts: &UseCounts,
     f: &Func,
     consumer: usize,
     op: &Op,
 ) -> Result<Option<Found>, Memory>
-    requires alone { w.now.funcs ≡ f.now ∷ [] }
+    requires counted { IsCounted (count_in counts.now) f.now.body }
     requires passes { FuncPasses f.now }
     requires there { slice_get f.now.body consumer ≡ Some op.now }
     ensures { IfOk result (λ r. r ≡ spot_of (type_among (scope_before f.now consumer)) f.now.body (take consumer f.now.body) (as_generic op.now.kind)) }
 {
     match as_generic(&op.kind) {
-        Some(c) => pair_among(alloc, w, f, consumer, &c),
+        Some(c) => pair_among(alloc, counts, f, consumer, &c),
         None => Ok(None),
     }
 }
 
-/// The first pair of a function that passes the verifier, in tree order and then in operand order. `w` holds this
-/// function alone.
-pub(crate) fn first_pair(alloc: Global, w: &Module, f: &Func) -> Result<Option<Found>, Memory>
-    requires alone { w.now.funcs ≡ f.now ∷ [] }
+/// The first pair of a function that passes the verifier, in tree order and then in operand order, where no operation
+/// before a place is the consumer of one.
+pub(crate) fn first_pair(
+    alloc: Global,
+    counts: &UseCounts,
+    f: &Func,
+    from: usize,
+) -> Result<Option<Found>, Memory>
+    requires counted { IsCounted (count_in counts.now) f.now.body }
     requires passes { FuncPasses f.now }
+    requires searched { IsSearched f.now from }
     ensures { IfOk result (λ r. r ≡ first_spot f.now) }
 {
-    for (consumer, op) in f.body.as_slice().iter().enumerate() {
-        match pair_of(alloc, w, f, consumer, op) {
+    let body = f.body.as_slice();
+    for consumer in from..body.len() {
+        match pair_of(alloc, counts, f, consumer, &body[consumer]) {
             Ok(Some(found)) => return Ok(Some(found)),
             Ok(None) => {}
             Err(e) => return Err(e),

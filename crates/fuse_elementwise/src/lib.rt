@@ -20,6 +20,7 @@ mod next;
 mod orders;
 mod producing;
 mod putting;
+mod resuming;
 mod step;
 mod turn;
 mod turning;

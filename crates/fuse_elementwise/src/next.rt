@@ -8,19 +8,22 @@ ghost use Rattle.payload_laws.specs.Known.{may_trap};
 ghost use Rattle.verified_runs.specs.Passes.{FuncPasses};
 ghost use Rattle.pair_laws.specs.FuseAll.{as_generic};
 ghost use Rattle.fuse_forms.specs.Forms.{structured};
-ghost use Rattle.fuse_elementwise.specs.Spots.{first_spot};
+ghost use Rattle.fuse_elementwise.specs.Spots.{first_spot, IsCounted};
 ghost use Rattle.fuse_elementwise.specs.Turns.{Forms, IsPair, NextIs};
+ghost use Rattle.use_counts.specs.Counts.{count_in};
 
 use crate::finding::map_at;
 use crate::found::Found;
 use crate::generics::as_generic;
+use crate::resuming::change_at;
 use crate::turn::Next;
 use affine_maps::AffineMap;
 use fuse_forms::{Fused, Generic, fused};
 use mlir_base::Memory;
-use mlir_ir::{Func, OpId};
+use mlir_ir::{Func, OpId, ValueId};
 use payload_laws::can_trap;
 use std::alloc::Global;
+use use_counts::UseCounts;
 
 /// The generic at a place of a body.
 fn generic_at(f: &Func, place: usize) -> Option<Generic<'_>>
@@ -39,6 +42,12 @@ fn id_at(f: &Func, place: usize) -> Option<OpId>
         Some(op) => Some(op.id),
         None => None,
     }
+}
+
+fn value_at(values: &[ValueId], k: usize) -> Option<ValueId>
+    ensures { result ≡ slice_get values.now k }
+{
+    values.get(k).copied()
 }
 
 /// That maps are maps, as their types keep.
@@ -76,14 +85,28 @@ fn formed(
 }
 
 /// The first pair's fusion, where its producer can't trap.
-fn fusion(alloc: Global, f: &Func, found: Found, p: &Generic, c: &Generic) -> Result<Next, Memory>
+fn fusion(
+    alloc: Global,
+    counts: &UseCounts,
+    f: &Func,
+    found: Found,
+    p: &Generic,
+    c: &Generic,
+) -> Result<Next, Memory>
+    requires counted { IsCounted (count_in counts.now) f.now.body }
     requires passes { FuncPasses f.now }
     requires pair { IsPair f.now found (structured p.now) (structured c.now) }
     requires no_trap { may_trap (structured p.now).payload ≡ false }
     ensures { IfOk result (NextIs f.now) }
 {
     match formed(alloc, f, &found, p, c) {
-        Ok(Some(g)) => Ok(Next::Becomes(found, g.into_kind())),
+        Ok(Some(g)) => {
+            let Some(gone) = value_at(c.ins, found.operand as usize) else {
+                unreachable!()
+            };
+            let change = change_at(counts, f, &found, p, gone);
+            Ok(Next::Becomes(found, g.into_kind(), change))
+        }
         Ok(None) => Ok(Next::Large),
         Err(e) => Err(e),
     }
@@ -102,7 +125,13 @@ fn traps(f: &Func, found: &Found, p: &Generic) -> Next
 }
 
 /// What is next, where the first pair stands here.
-pub(crate) fn next_at(alloc: Global, f: &Func, found: Found) -> Result<Next, Memory>
+pub(crate) fn next_at(
+    alloc: Global,
+    counts: &UseCounts,
+    f: &Func,
+    found: Found,
+) -> Result<Next, Memory>
+    requires counted { IsCounted (count_in counts.now) f.now.body }
     requires passes { FuncPasses f.now }
     requires spot { Some found ≡ first_spot f.now }
     ensures { IfOk result (NextIs f.now) }
@@ -116,6 +145,6 @@ pub(crate) fn next_at(alloc: Global, f: &Func, found: Found) -> Result<Next, Mem
     if can_trap(p.payload) {
         Ok(traps(f, &found, &p))
     } else {
-        fusion(alloc, f, found, &p, &c)
+        fusion(alloc, counts, f, found, &p, &c)
     }
 }

@@ -4,11 +4,22 @@ use Rattle.verified_runs.specs.Forms.{Structured, kind_of}
 use Rattle.fuse_forms.specs.Forms.{structured}
 use Rattle.fuse_elementwise.specs.Spots.{spot}
 use Rattle.fuse_elementwise.specs.Turns.{Forms}
-use Rattle.fuse_elementwise.proofs.Nexts.{same_trap}
+use Rattle.fuse_elementwise.proofs.Nexts.{below_there, behind_there, change_there, no_value, same_trap}
 use Rattle.fuse_elementwise.proofs.next.fusion.Goals as goal
 
-pub returns-in-Ok-Some : goal.returns-in-Ok-Some
-returns-in-Ok-Some c =
+pub unreachable-requires : goal.unreachable-requires
+unreachable-requires c = no_value c.args.f.now c.args.found (structured c.args.p.now) (structured c.args.c.now) c.requires.pair c.in_default.ensures
+
+pub change_at-change-requires-clause-behind : goal.change_at-change-requires-clause-behind
+change_at-change-requires-clause-behind c =
+    behind_there c.args.f.now c.args.found (structured c.args.p.now) (structured c.args.c.now) c.requires.pair
+
+pub change_at-change-requires-clause-within : goal.change_at-change-requires-clause-within
+change_at-change-requires-clause-within c =
+    below_there c.args.f.now c.args.found (structured c.args.p.now) (structured c.args.c.now) c.requires.pair
+
+pub returns-in-Some : goal.returns-in-Some
+returns-in-Some c =
     let f = c.args.f.now in
     let i = c.requires.pair in
     let x = subst (λ (r : Option Structured). Forms f r) c.in-Ok-Some.field-0-is c.in-Ok-Some.ensures in
@@ -19,6 +30,7 @@ returns-in-Ok-Some c =
       x.2,
       i.there ∙ ap spot same,
       c.into_kind.ensures ∙ ap kind_of x.3,
+      change_there f c.args.found (structured c.args.p.now) (structured c.args.c.now) i x.0 x.1 c.change_at-change.result c.in-Some.gone c.change_at-change.ensures c.in-Some.ensures,
     )
 
 pub returns-in-Ok-None : goal.returns-in-Ok-None

@@ -11,4 +11,4 @@ put-requires-clause-consumer c =
 pub returns-in-Ok : goal.returns-in-Ok
 returns-in-Ok c =
     let x = subst (NextIs c.args.f) c.in-Becomes.is c.requires in
-    (x.0, x.1, x.2, x.3, c.in-Ok.ensures ∙ pair_put c.args.f x.0 x.1 c.in-Becomes.found c.in-Becomes.kind x.4 x.5)
+    (x.0, x.1, x.2, x.3, c.in-Ok.ensures ∙ pair_put c.args.f x.0 x.1 c.in-Becomes.found c.in-Becomes.kind x.4 x.5, x.6)
