@@ -9,6 +9,7 @@ The families, all by default:
   match        a match of n `linalg.generic`
   generalize   n `linalg.matmul`, matched and generalized
   interchange  n `linalg.generic`, matched, with their dimensions interchanged
+  fuse         n `linalg.generic` in a chain, fused: the limit on steps of a payload leaves one for each 1,024 of them
   steps        n steps over 8 `linalg.generic`: a match and an interchange in turn
 
 PROGRAM reads each text from standard input, under --transform-interpreter but for the first family. Where mlir-opt-22 is
@@ -88,6 +89,13 @@ def interchanged(count):
     return text(generic, count, [match('linalg.generic', 'g'), interchange('g', 'h')])
 
 
+def fused(count):
+    """All pairs of generics become one while they fit."""
+    return text(generic, count, [
+        match('func.func', 'f'),
+        f'    %h = transform.apply_registered_pass "linalg-fuse-elementwise-ops" to %f : ({HANDLE}) -> {HANDLE}'])
+
+
 def many_steps(count):
     """So many steps over 8 generics."""
     return text(generic, 8, [
@@ -101,6 +109,7 @@ FAMILIES = {
     'match': (matched, (1_000, 8_000), APPLIED),
     'generalize': (generalized, (1_000, 8_000), APPLIED),
     'interchange': (interchanged, (1_000, 8_000), APPLIED),
+    'fuse': (fused, (1_000, 8_000), APPLIED),
     'steps': (many_steps, (100, 1_000), APPLIED),
 }
 
