@@ -39,7 +39,7 @@ abbrev are_inputs : Types → Constants → Structured → Bool
 are_inputs t constants g =
     (length g.ins == length g.payload.ins) && list_all (λ (x : ValueId × ElemTy). is_input (t x.0.0) (constants x.0.0) x.1) (zip g.ins g.payload.ins)
 
-typed_fits : (t : Types) (constants : Constants) (wanted : List Ty) (results : List (ValueId × Ty)) (g : Structured) → is_typed t constants wanted results (kind_of g) ≡ true → StructuredFits g
+pub typed_fits : (t : Types) (constants : Constants) (wanted : List Ty) (results : List (ValueId × Ty)) (g : Structured) → is_typed t constants wanted results (kind_of g) ≡ true → StructuredFits g
 unfolding is_typed
 typed_fits t constants wanted results g h =
     let whole = and_parts _ (gives_output t results g.outs) h in

@@ -1,6 +1,5 @@
 ghost use Rattle.std.specs.Prelude.{◌≡◌, ◌∷◌, [], Some, false, IfOk, option_copied};
-ghost use Rattle.mlir_ir.specs.declared.tree.OpKind.{Fill, Matmul, BatchMatmul, Transpose, Broadcast};
-ghost use Rattle.mlir_meaning.specs.Structured.{Form as FormShape};
+ghost use Rattle.mlir_meaning.specs.Structured.{Form as FormShape, fill_form, matmul_form, batch_matmul_form, transpose_form, broadcast_form};
 ghost use Rattle.mlir_verify.specs.Place.{type_among};
 ghost use Rattle.mlir_verify.specs.Tensors.{rank_of};
 ghost use Rattle.mlir_edits.specs.Places.{scope_before};
@@ -85,88 +84,78 @@ fn shape_of(alloc: Global, form: Option<Form>, ins: List<ValueId>, outs: ValueId
     }
 }
 
-#[tactic(auto, unfolding(verified_runs::specs::Forms::structured_of))]
-fn fill_shape(
+/// A fill as a generic, by the type of its output.
+pub fn fill_shape(
     alloc: Global,
-    f: &Func,
-    position: usize,
+    ty: Option<&Ty>,
     value: ValueId,
     outs: ValueId,
 ) -> Result<Shape, Memory>
-    ensures { IfOk result (Shapes false (structured_of (type_among (scope_before f.now position)) (Fill value outs))) }
+    ensures { IfOk result (Shapes false (Some (of_form (fill_form (width_in (option_copied ty.entry)) (rank_of (option_copied ty.entry))) (value ∷ []) outs))) }
 {
     let ins = one(alloc, value)?;
-    let ty = type_before(f, position, outs);
     let form = fill_form(alloc, width_in(ty), rank_of(ty))?;
     Ok(shape_of(alloc, form, ins, outs))
 }
 
-#[tactic(auto, unfolding(verified_runs::specs::Forms::structured_of))]
-fn matmul_shape(
+/// A matmul as a generic, by the types of its first input and of its output.
+pub fn matmul_shape(
     alloc: Global,
-    f: &Func,
-    position: usize,
+    narrow: Option<&Ty>,
+    wide: Option<&Ty>,
     a: ValueId,
     b: ValueId,
     outs: ValueId,
 ) -> Result<Shape, Memory>
-    ensures { IfOk result (Shapes false (structured_of (type_among (scope_before f.now position)) (Matmul a b outs))) }
+    ensures { IfOk result (Shapes false (Some (of_form (matmul_form (width_in (option_copied narrow.entry)) (width_in (option_copied wide.entry))) (a ∷ b ∷ []) outs))) }
 {
     let ins = two(alloc, a, b)?;
-    let narrow = width_in(type_before(f, position, a));
-    let width = width_in(type_before(f, position, outs));
-    let form = matmul_form(alloc, narrow, width)?;
+    let form = matmul_form(alloc, width_in(narrow), width_in(wide))?;
     Ok(shape_of(alloc, form, ins, outs))
 }
 
-#[tactic(auto, unfolding(verified_runs::specs::Forms::structured_of))]
-fn batch_matmul_shape(
+/// A batch_matmul as a generic, by the types of its first input and of its output.
+pub fn batch_matmul_shape(
     alloc: Global,
-    f: &Func,
-    position: usize,
+    narrow: Option<&Ty>,
+    wide: Option<&Ty>,
     a: ValueId,
     b: ValueId,
     outs: ValueId,
 ) -> Result<Shape, Memory>
-    ensures { IfOk result (Shapes false (structured_of (type_among (scope_before f.now position)) (BatchMatmul a b outs))) }
+    ensures { IfOk result (Shapes false (Some (of_form (batch_matmul_form (width_in (option_copied narrow.entry)) (width_in (option_copied wide.entry))) (a ∷ b ∷ []) outs))) }
 {
     let ins = two(alloc, a, b)?;
-    let narrow = width_in(type_before(f, position, a));
-    let width = width_in(type_before(f, position, outs));
-    let form = batch_matmul_form(alloc, narrow, width)?;
+    let form = batch_matmul_form(alloc, width_in(narrow), width_in(wide))?;
     Ok(shape_of(alloc, form, ins, outs))
 }
 
-#[tactic(auto, unfolding(verified_runs::specs::Forms::structured_of))]
-fn transpose_shape(
+/// A transpose as a generic, by the type of its output.
+pub fn transpose_shape(
     alloc: Global,
-    f: &Func,
-    position: usize,
+    ty: Option<&Ty>,
     source: ValueId,
     outs: ValueId,
     order: &List<u32>,
 ) -> Result<Shape, Memory>
-    ensures { IfOk result (Shapes false (structured_of (type_among (scope_before f.now position)) (Transpose source outs order.now))) }
+    ensures { IfOk result (Shapes false (Some (of_form (transpose_form (width_in (option_copied ty.entry)) order.now) (source ∷ []) outs))) }
 {
     let ins = one(alloc, source)?;
-    let width = width_in(type_before(f, position, outs));
-    let form = transpose_form(alloc, width, order.as_slice())?;
+    let form = transpose_form(alloc, width_in(ty), order.as_slice())?;
     Ok(shape_of(alloc, form, ins, outs))
 }
 
-#[tactic(auto, unfolding(verified_runs::specs::Forms::structured_of))]
-fn broadcast_shape(
+/// A broadcast as a generic, by the type of its output.
+pub fn broadcast_shape(
     alloc: Global,
-    f: &Func,
-    position: usize,
+    ty: Option<&Ty>,
     source: ValueId,
     outs: ValueId,
     dims: &List<u32>,
 ) -> Result<Shape, Memory>
-    ensures { IfOk result (Shapes false (structured_of (type_among (scope_before f.now position)) (Broadcast source outs dims.now))) }
+    ensures { IfOk result (Shapes false (Some (of_form (broadcast_form (width_in (option_copied ty.entry)) (rank_of (option_copied ty.entry)) dims.now) (source ∷ []) outs))) }
 {
     let ins = one(alloc, source)?;
-    let ty = type_before(f, position, outs);
     let form = broadcast_form(alloc, width_in(ty), rank_of(ty), dims.as_slice())?;
     Ok(shape_of(alloc, form, ins, outs))
 }
@@ -183,16 +172,30 @@ pub(crate) fn shape_at(
 {
     match kind {
         OpKind::Generic { .. } => Ok(Shape::Stays),
-        OpKind::Fill { value, outs } => fill_shape(alloc, f, position, *value, *outs),
-        OpKind::Matmul { a, b, outs } => matmul_shape(alloc, f, position, *a, *b, *outs),
-        OpKind::BatchMatmul { a, b, outs } => batch_matmul_shape(alloc, f, position, *a, *b, *outs),
+        OpKind::Fill { value, outs } => {
+            fill_shape(alloc, type_before(f, position, *outs), *value, *outs)
+        }
+        OpKind::Matmul { a, b, outs } => {
+            let narrow = type_before(f, position, *a);
+            let wide = type_before(f, position, *outs);
+            matmul_shape(alloc, narrow, wide, *a, *b, *outs)
+        }
+        OpKind::BatchMatmul { a, b, outs } => {
+            let narrow = type_before(f, position, *a);
+            let wide = type_before(f, position, *outs);
+            batch_matmul_shape(alloc, narrow, wide, *a, *b, *outs)
+        }
         OpKind::Transpose {
             source,
             outs,
             order,
-        } => transpose_shape(alloc, f, position, *source, *outs, order),
+        } => {
+            let ty = type_before(f, position, *outs);
+            transpose_shape(alloc, ty, *source, *outs, order)
+        }
         OpKind::Broadcast { source, outs, dims } => {
-            broadcast_shape(alloc, f, position, *source, *outs, dims)
+            let ty = type_before(f, position, *outs);
+            broadcast_shape(alloc, ty, *source, *outs, dims)
         }
         _ => Ok(Shape::Wrong),
     }

@@ -36,7 +36,7 @@ fn breaks_reduction_order(
 }
 
 /// What an operation becomes in this order.
-fn turn(alloc: Global, order: &[u32], kind: &OpKind) -> Result<Turn, Memory>
+pub fn turn(alloc: Global, order: &[u32], kind: &OpKind) -> Result<Turn, Memory>
     ensures { IfOk result (Turns order.now (as_generic kind.now)) }
 {
     match kind {

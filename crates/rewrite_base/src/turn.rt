@@ -3,7 +3,7 @@ use structured_steps::StepRule;
 
 /// What an operation becomes in another order of its dimensions, or the rule that is broken.
 #[derive(Drop)]
-pub(crate) enum Turn {
+pub enum Turn {
     Breaks(StepRule),
     Unfit,
     Becomes(OpKind),

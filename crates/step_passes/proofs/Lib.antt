@@ -1,0 +1,15 @@
+pub mod Twice
+pub mod Walking
+pub mod Following
+pub mod Placed
+pub mod Stands
+pub mod Modules
+pub mod Counters
+pub mod Natural
+pub mod Turns
+pub mod Passing
+pub mod Indexing
+pub mod Drafts
+pub mod Answering
+pub mod Carrying
+pub mod Verifying

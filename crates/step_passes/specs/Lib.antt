@@ -1,0 +1,12 @@
+pub mod OnePass
+pub mod Exchanging
+pub mod Steps
+pub mod Sequences
+pub mod Planned
+pub mod Laws
+pub mod Naming
+pub mod Pending
+pub mod Telling
+pub mod Noting
+pub mod Drafting
+pub mod Answered
