@@ -5,19 +5,33 @@ use Rattle.std.specs.List.{list_all}
 use Rattle.std.proofs.lemmas.Bool.{and_parts, or_parts}
 use Rattle.std.proofs.lemmas.List.{drop_all, map-append}
 use Rattle.std.proofs.lemmas.Option.{same_Some}
+use Rattle.affine_maps.specs.Permutation.{is_among}
 use Rattle.mlir_base.specs.declared.limit.Which.{Which}
 use Rattle.mlir_base.specs.declared.limit.Which.TheVariants.{Operations, Extent}
+use Rattle.mlir_ir.specs.Count.{find_in}
 use Rattle.mlir_ir.specs.declared.tree.Module.{Module}
+use Rattle.mlir_ir.specs.declared.tree.Op.{Op}
+use Rattle.mlir_ir.specs.declared.tree.OpId.{OpId}
 use Rattle.mlir_verify.specs.Rules.{IsVerified}
-use Rattle.structured_steps.specs.declared.rule.StepRule.TheVariants.{HandleCount}
+use Rattle.verified_runs.specs.Fresh.{fresh_value, fresh_op}
+use Rattle.structured_steps.specs.Steps.{formed, broken_of, rules_of_generalize, rules_of_interchange}
+use Rattle.structured_steps.specs.declared.rule.StepRule.{StepRule}
+use Rattle.structured_steps.specs.declared.rule.StepRule.TheVariants.{HandleCount, WrongKind}
 use Rattle.rewrite_base.specs.declared.error.StepError.{StepError}
 use Rattle.rewrite_base.specs.declared.error.StepError.TheVariants.{Rule, Limit, Memory}
 use Rattle.rewrite_base.specs.declared.made.Made.{Made}
+use Rattle.rewrite_base.specs.Answers.{made_by_generalize, made_by_interchange}
 use Rattle.rewrite_base.specs.Limits.{limit_of, has_large_numbers}
+use Rattle.step_passes.specs.Answered.{Answered}
+use Rattle.step_passes.specs.Exchanging.{formed_by, made_of}
+use Rattle.step_passes.specs.Sequences as pass
+use Rattle.step_passes.specs.Steps.{generalizing, interchanging}
+use Rattle.step_passes.proofs.Natural.{generalizing_step, interchanging_step}
 use Rattle.pair_laws.specs.FuseAll.{Stop, MayTrap, LargeNumber}
 use Rattle.fuse_elementwise.specs.Fused.{fused_in, limit_by, AnswersFuse}
 use Rattle.transform_handles.specs.Handles.{Row}
 use Rattle.transform_handles.specs.Items.{matched}
+use Rattle.transform_handles.specs.Targets.{is_one_of}
 use Rattle.transform_handles.specs.declared.target.Target.{Target}
 use Rattle.transform_handles.specs.declared.target.Target.TheVariants.{Root, Function, Operation}
 use Rattle.script_read.specs.declared.script.HandleId.{HandleId}
@@ -31,7 +45,7 @@ use Rattle.script_run.specs.declared.transforms.Transform.TheVariants as transfo
 use Rattle.script_run.specs.Outcomes.{and_then, breaks, demand, Refuses, Agrees}
 use Rattle.script_run.specs.Sessions.{SessionShape, stands_in, are_different, are_targets, opened, IsSession}
 use Rattle.script_run.specs.Steps.{TargetStep, decided, operations, at_target, within, fused_as, fuse_at, behind, at_each, targets_of, result_rows, with_rows, moved_on, matches, splits, transforms, after}
-use Rattle.script_run.specs.Transforms.{step_of, target_step, function_stands, functions_stand}
+use Rattle.script_run.specs.Transforms.{step_of, target_step, exchanging_of, front, are_operations, function_stands, functions_stand}
 use Rattle.script_run.specs.Scripts.{is_built, are_built, told, unbuilt_from, go_on, reached, module_of, run, StopsAt, Runs}
 use Rattle.script_run.proofs.Fused.{Stays, is_fused, count_stays, still_stand, ranged, fuses_leave}
 use Rattle.script_run.proofs.Kept.{IsKept, Keeps, rest_stand, generalize_keeps, interchange_keeps, same_ok}
@@ -50,13 +64,148 @@ refused_same Memory r q s h = tt
 refused_same (Rule rule at) r q s h = sym s ∙ h
 refused_same (Limit which) r q s h = sym s ∙ h
 
--- WHAT IS KEPT
-pub nothing_kept : IsKept (λ m. ⊤)
+-- ONE PASS
+abbrev made : pass.Outcome → Result (Module × Made) StepError
+made (Ok q) = Ok (q.0, record { ops = q.1 })
+made (Err e) = Err e
+
+abbrev as_targets : pass.Outcome → Result (Module × List Target) StepError
+as_targets (Ok q) = Ok (q.0, map Operation q.1)
+as_targets (Err e) = Err e
+
+-- what follows the operations
+abbrev ended : List Target → Result (Module × List Target) StepError → Result (Module × List Target) StepError
+ended ts r = and_then r (λ q. if are_operations ts then Ok q else breaks WrongKind)
+
+same_decided : (i : OpId) (b : Option StepRule) (l : Option Which) (m : Module) (ops : List OpId) → decided i b l m ops ≡ made (pass.decided i b l m ops)
+same_decided i (Some rule) l m ops = refl
+same_decided i None (Some which) m ops = refl
+same_decided i None None m ops = refl
+
+same_at : (what : Exchange) (i : OpId) (m : Module) → is_some (find_in i m.funcs) ≡ true → step_of what i m ≡ made (pass.exchanged_at (exchanging_of what) i m)
+same_at Generalize i m s =
+    (λ j. decided i (broken_of i rules_of_generalize m) (limit_of m (formed i (generalizing_step (fresh_op m.funcs) (fresh_value m.funcs) j) m)) (formed i (generalizing_step (fresh_op m.funcs) (fresh_value m.funcs) j) m) (made_by_generalize i m))
+    ∙ same_decided i (broken_of i rules_of_generalize m) (limit_of m (formed_by generalizing i m)) (formed_by generalizing i m) (made_by_generalize i m)
+same_at (Interchange order) i m s = by_op (some_of (find_in i m.funcs) s) where
+  by_op : (o : Op) × (find_in i m.funcs ≡ Some o) → step_of (Interchange order) i m ≡ made (pass.exchanged_at (interchanging order.now) i m)
+  by_op f =
+      (λ j. decided i (broken_of i (rules_of_interchange order.now) m) (limit_of m (formed i (interchanging_step order.now (fresh_op m.funcs) (fresh_value m.funcs) j) m))
+      (formed i (interchanging_step order.now (fresh_op m.funcs) (fresh_value m.funcs) j) m) (made_by_interchange m))
+      ∙ same_decided i (broken_of i (rules_of_interchange order.now) m) (limit_of m (formed_by (interchanging order.now) i m)) (formed_by (interchanging order.now) i m) (made_by_interchange m)
+      ∙ (λ j. made (pass.decided i (broken_of i (rules_of_interchange order.now) m) (limit_of m (formed_by (interchanging order.now) i m)) (formed_by (interchanging order.now) i m)
+      (made_of (interchanging order.now) i m (sym f.1 j))))
+
+nothing_kept : IsKept (λ m. ⊤)
 nothing_kept = record { generalize = λ m i v q s r l. tt; interchange = λ m i order v q s r l. tt; fuse = λ m n k v q f l. tt }
 
-pub exchange_keeps : (what : Exchange) → Keeps (λ m. ⊤) (step_of what)
+exchange_keeps : (what : Exchange) → Keeps (λ m. ⊤) (step_of what)
 exchange_keeps Generalize = generalize_keeps (λ m. ⊤) nothing_kept
 exchange_keeps (Interchange order) = interchange_keeps (λ m. ⊤) nothing_kept order.now
+
+-- the targets that follow stand in the module that was formed
+abbrev Ready : Module → List Target → Type 0
+Ready m ts = IsVerified m × (are_targets m ts ≡ true)
+
+target_ready : (what : Exchange) (i : OpId) (ts : List Target) (m n : Module) (ops : List OpId) → Ready m (Operation i ∷ ts) → step_of what i m ≡ Ok (n, record { ops = ops }) → Ready n ts
+target_ready what i ts m n ops h d =
+    let parts = and_parts _ (are_different (Operation i ∷ ts)) h.1 in
+    let a = exchange_keeps what m i n (record { ops = ops }) h.0 (and_parts (stands_in m (Operation i)) _ parts.0).0 d in
+    (a.verified, rest_stand (λ m. ⊤) m n i ops ts a h.1)
+
+-- what was given stands first
+first_given : (ts : List Target) (ops : List OpId) (r : pass.Outcome) → behind (map Operation ops) (ended ts (as_targets r)) ≡ ended ts (as_targets (pass.behind ops r))
+first_given ts ops (Err e) = refl
+first_given ts ops (Ok q) = by_test (are_operations ts) where
+  by_test : (b : Bool) → behind (map Operation ops) (if b then Ok (q.0, map Operation q.1) else breaks WrongKind) ≡ (if b then Ok (q.0, map Operation (ops ++ q.1)) else breaks WrongKind)
+  by_test true = ap (λ (ts : List Target). Ok (q.0, ts)) (sym (map-append Operation ops q.1))
+  by_test false = refl
+
+pub in_one_pass : (what : Exchange) (ts : List Target) (m : Module) → Ready m ts →
+    at_each (at_target (step_of what)) ts m ≡ ended ts (as_targets (pass.at_each (pass.exchanged_at (exchanging_of what)) (front ts) m))
+in_one_pass what [] m h = refl
+in_one_pass what (Root ∷ ts) m h = refl
+in_one_pass what (Function k ∷ ts) m h = refl
+in_one_pass what (Operation i ∷ ts) m h = by_first (in_one_pass what ts) (pass.exchanged_at (exchanging_of what) i m) refl where
+  here : is_some (find_in i m.funcs) ≡ true
+  here = (and_parts (stands_in m (Operation i)) (list_all (stands_in m) ts) (and_parts (list_all (stands_in m) (Operation i ∷ ts)) (are_different (Operation i ∷ ts)) h.1).0).0
+
+  Again : Type 0
+  Again = (n : Module) → Ready n ts → at_each (at_target (step_of what)) ts n ≡ ended ts (as_targets (pass.at_each (pass.exchanged_at (exchanging_of what)) (front ts) n))
+
+  rest : pass.Outcome → Result (Module × List Target) StepError
+  rest r = ended ts (as_targets (pass.then_at r (λ n. pass.behind (pass.given_by r) (pass.at_each (pass.exchanged_at (exchanging_of what)) (front ts) n))))
+
+  by_answer : Again → (r : pass.Outcome) → step_of what i m ≡ made r → and_then (and_then (made r) (λ q. Ok (operations q))) (λ q. behind q.1 (at_each (at_target (step_of what)) ts q.0)) ≡ rest r
+  by_answer again (Err e) d = refl
+  by_answer again (Ok q) d = ap (behind (map Operation q.1)) (again q.0 (target_ready what i ts m q.0 q.1 h d)) ∙ first_given ts q.1 (pass.at_each (pass.exchanged_at (exchanging_of what)) (front ts) q.0)
+
+  by_first : Again → (r : pass.Outcome) → pass.exchanged_at (exchanging_of what) i m ≡ r →
+      at_each (at_target (step_of what)) (Operation i ∷ ts) m ≡ rest (pass.exchanged_at (exchanging_of what) i m)
+  by_first again r d =
+      (λ j. and_then (and_then ((same_at what i m here ∙ ap made d) j) (λ q. Ok (operations q))) (λ q. behind q.1 (at_each (at_target (step_of what)) ts q.0)))
+      ∙ by_answer again r (same_at what i m here ∙ ap made d) ∙ ap rest (sym d)
+
+-- all are operations where the front has as many
+pub all_operations : (ts : List Target) → length (front ts) ≡ length ts → are_operations ts ≡ true
+all_operations [] h = refl
+all_operations (Root ∷ ts) h = absurd (omega (arith, h))
+all_operations (Function k ∷ ts) h = absurd (omega (arith, h))
+all_operations (Operation i ∷ ts) h = all_operations ts (omega (arith, h))
+
+another_there : (ts : List Target) → are_operations ts ≡ true → length (front ts) ≡ length ts
+another_there [] h = refl
+another_there (Root ∷ ts) h = absurd (let z : true ≡ false = sym h in cc)
+another_there (Function k ∷ ts) h = absurd (let z : true ≡ false = sym h in cc)
+another_there (Operation i ∷ ts) h = ap suc (another_there ts h)
+
+pub not_all_operations : (ts : List Target) → (length (front ts) ≡ length ts → ⊥) → are_operations ts ≡ false
+not_all_operations ts h = by_test (are_operations ts) refl where
+  by_test : (b : Bool) → are_operations ts ≡ b → are_operations ts ≡ false
+  by_test false e = e
+  by_test true e = absurd (h (another_there ts e))
+
+-- operations among targets are operations of the module, of which none stands twice
+front_stand : (m : Module) (ts : List Target) → list_all (stands_in m) ts ≡ true → list_all (λ (i : OpId). is_some (find_in i m.funcs)) (front ts) ≡ true
+front_stand m [] h = refl
+front_stand m (Root ∷ ts) h = refl
+front_stand m (Function k ∷ ts) h = refl
+front_stand m (Operation i ∷ ts) h = let parts = and_parts (is_some (find_in i m.funcs)) (list_all (stands_in m) ts) h in λ j. parts.0 j && front_stand m ts parts.1 j
+
+front_lacks : (i : OpId) (ts : List Target) → is_one_of (Operation i) ts ≡ false → is_among i.0 (pass.numbers_of (front ts)) ≡ false
+front_lacks i [] h = refl
+front_lacks i (Root ∷ ts) h = refl
+front_lacks i (Function k ∷ ts) h = refl
+front_lacks i (Operation n ∷ ts) h = let parts = or_parts (n.0 == i.0) (is_one_of (Operation i) ts) h in λ j. parts.0 j || front_lacks i ts parts.1 j
+
+front_different : (ts : List Target) → are_different ts ≡ true → pass.are_different (front ts) ≡ true
+front_different [] h = refl
+front_different (Root ∷ ts) h = refl
+front_different (Function k ∷ ts) h = refl
+front_different (Operation i ∷ ts) h =
+    let parts = and_parts (not (is_one_of (Operation i) ts)) (are_different ts) h in
+    λ j. not (front_lacks i ts (not_true (is_one_of (Operation i) ts) parts.0) j) && front_different ts parts.1 j
+
+pub front_targets : (m : Module) (ts : List Target) → are_targets m ts ≡ true → pass.are_targets m (front ts) ≡ true
+front_targets m ts h = let parts = and_parts (list_all (stands_in m) ts) (are_different ts) h in λ j. front_stand m ts parts.0 j && front_different ts parts.1 j
+
+module _ (what : Exchange) (ts : List Target) (m : Module) (verified : IsVerified m) (stand : are_targets m ts ≡ true) where
+  abbrev Passed : pass.Outcome
+  Passed = pass.at_each (pass.exchanged_at (exchanging_of what)) (front ts) m
+
+  pub pass_gives : (n : Module) (made : Made) (given : List Target) → Passed ≡ Ok (n, made.ops) → are_operations ts ≡ true → given ≡ map Operation made.ops →
+      at_each (at_target (step_of what)) ts m ≡ Ok (n, given)
+  pass_gives n made given h all e =
+      in_one_pass what ts m (verified, stand) ∙ ap (λ (r : pass.Outcome). ended ts (as_targets r)) h ∙ (λ j. if all j then Ok (n, map Operation made.ops) else breaks WrongKind)
+      ∙ (λ j. Ok (n, sym e j))
+
+  pub pass_meets_another : (n : Module) (made : Made) → Passed ≡ Ok (n, made.ops) → are_operations ts ≡ false → at_each (at_target (step_of what)) ts m ≡ breaks WrongKind
+  pass_meets_another n made h none =
+      in_one_pass what ts m (verified, stand) ∙ ap (λ (r : pass.Outcome). ended ts (as_targets r)) h ∙ (λ j. if none j then Ok (n, map Operation made.ops) else breaks WrongKind)
+
+  pub pass_refused : (e : StepError) → Answered (Err e) Passed → Refuses e (at_each (at_target (step_of what)) ts m)
+  pass_refused Memory h = tt
+  pass_refused (Rule rule at) h = in_one_pass what ts m (verified, stand) ∙ ap (λ (r : pass.Outcome). ended ts (as_targets r)) h
+  pass_refused (Limit which) h = in_one_pass what ts m (verified, stand) ∙ ap (λ (r : pass.Outcome). ended ts (as_targets r)) h
 
 -- FUSING
 -- what the code answers for a function
@@ -80,7 +229,7 @@ function_refused k m (Rule rule (Some i)) h = ap (fused_as k m) h.1 ∙ (λ j. E
 function_refused k m (Limit which) h = fused_limit k m which (fused_in k m) h
 function_refused k m Memory h = tt
 
-pub behind_twice : (xs ys : List Target) (r : Result (Module × List Target) StepError) → behind xs (behind ys r) ≡ behind (xs ++ ys) r
+behind_twice : (xs ys : List Target) (r : Result (Module × List Target) StepError) → behind xs (behind ys r) ≡ behind (xs ++ ys) r
 behind_twice xs ys (Ok q) = ap (λ (ts : List Target). Ok (q.0, ts)) (sym (append_assoc xs ys q.1))
 behind_twice xs ys (Err e) = refl
 
@@ -91,7 +240,7 @@ ready_next (Function k) ts m n h e =
     let parts = and_parts (nat_lt k (length m.funcs)) (list_all (function_stands m) ts) h in
     still_stand m n ts (count_stays k m n parts.0 (is_fused k m n (Function k ∷ []) e).formed) parts.1
 
-pub opened_at : {A : Type 0} (xs : List A) (k : ℕ) (x : A) → k < length xs → x ≡ get_or xs k x → drop k xs ≡ x ∷ drop (k + 1) xs
+opened_at : {A : Type 0} (xs : List A) (k : ℕ) (x : A) → k < length xs → x ≡ get_or xs k x → drop k xs ≡ x ∷ drop (k + 1) xs
 opened_at xs k x h e = rw add-one (drop-cons xs k x h) ∙ ap (λ y. y ∷ drop (k + 1) xs) (sym e)
 
 -- the element at a place doesn't depend on the default

@@ -8,4 +8,3 @@ pub mod Running
 pub mod Meanings
 pub mod Built
 pub mod Agreeing
-pub mod Exchanged

@@ -1,20 +1,22 @@
 //! Steps at targets.
 
-ghost use Rattle.std.specs.Prelude.{◌≡◌, ◌++◌, true, map, IsSome, OnOk};
-ghost use Rattle.mlir_ir.specs.Count.{find_in};
+ghost use Rattle.std.specs.Prelude.{◌≡◌, true, map, IfOk};
 ghost use Rattle.mlir_verify.specs.Rules.{IsVerified};
+ghost use Rattle.step_passes.specs.Answered.{Answered};
+ghost use Rattle.step_passes.specs.Sequences as pass;
 ghost use Rattle.transform_handles.specs.declared.target.Target.TheVariants.{Operation};
 ghost use Rattle.script_run.specs.Outcomes.{Agrees};
-ghost use Rattle.script_run.specs.Sessions.{stands_in, are_targets};
+ghost use Rattle.script_run.specs.Sessions.{are_targets};
 ghost use Rattle.script_run.specs.Steps.{at_target, at_each};
-ghost use Rattle.script_run.specs.Transforms.{step_of, target_step, Adds};
+ghost use Rattle.script_run.specs.Transforms.{step_of, target_step, exchanging_of, front};
 
 use crate::fusing::fuse_each;
 use mlir_base::{List, Memory};
 use mlir_ir::OpId;
 use mlir_verify::Checked;
-use rewrite_base::{Made, StepError, StepRule, generalize, interchange};
+use rewrite_base::{Made, StepError, StepRule};
 use std::alloc::Global;
+use step_passes::{generalize_all, interchange_all};
 use transform_handles::Target;
 
 /// A step that puts a new operation in the place of each of its targets.
@@ -36,53 +38,54 @@ pub(crate) const WRONG_KIND: StepError = StepError::Rule {
     op: None,
 };
 
-fn add_operations(given: &mut List<Target>, ops: &[OpId]) -> Result<(), Memory>
-    ensures { OnOk result (given.new ≡ given.old ++ map Operation ops.now) }
+/// The operations before the first target that is none.
+fn operations_of(alloc: Global, targets: &[Target]) -> Result<List<OpId>, Memory>
+    ensures { IfOk result (λ ops. ops ≡ front targets.now) }
 {
-    for op in ops {
-        match given.push(Target::Operation(*op)) {
+    let mut ops = List::new(alloc);
+    for t in targets {
+        let Target::Operation(op) = *t else {
+            return Ok(ops);
+        };
+        match ops.push(op) {
             Ok(()) => {}
             Err(e) => return Err(e),
         }
     }
-    Ok(())
+    Ok(ops)
+}
+
+fn as_targets(alloc: Global, ops: &[OpId]) -> Result<List<Target>, Memory>
+    ensures { IfOk result (λ ts. ts ≡ map Operation ops.now) }
+{
+    let mut targets = List::new(alloc);
+    for op in ops {
+        match targets.push(Target::Operation(*op)) {
+            Ok(()) => {}
+            Err(e) => return Err(e),
+        }
+    }
+    Ok(targets)
 }
 
 impl<'a> Exchange<'a> {
-    fn at(&self, alloc: Global, c: Checked, op: OpId) -> Result<(Checked, Made), StepError>
-        requires { IsSome (find_in op c.funcs) }
-        ensures { Agrees result (step_of self.now op c) }
-    {
-        match self {
-            Exchange::Generalize => generalize(alloc, c, op),
-            Exchange::Interchange(order) => interchange(alloc, c, op, order),
-        }
-    }
-
-    fn at_target(
+    fn in_one_pass(
         &self,
         alloc: Global,
         c: Checked,
-        t: Target,
-        given: &mut List<Target>,
-    ) -> Result<Checked, StepError>
-        requires { stands_in c t ≡ true }
-        ensures { Adds given.old given.new result (at_target (step_of self.now) t c) }
+        ops: &[OpId],
+    ) -> Result<(Checked, Made), StepError>
+        requires { pass.are_targets c ops.now ≡ true }
+        ensures { Answered result (pass.at_each (pass.exchanged_at (exchanging_of self.now)) ops.now c) }
     {
-        let Target::Operation(op) = t else {
-            return Err(WRONG_KIND);
-        };
-        match self.at(alloc, c, op) {
-            Ok((next, made)) => match add_operations(given, made.ops.as_slice()) {
-                Ok(()) => Ok(next),
-                Err(_) => Err(StepError::Memory),
-            },
-            Err(e) => Err(e),
+        match self {
+            Exchange::Generalize => generalize_all(alloc, c, ops),
+            Exchange::Interchange(order) => interchange_all(alloc, c, ops, order),
         }
     }
 
-    /// The exchange at each target in turn: the module after all, and what they gave.
-    fn at_each(
+    /// The step at each target in turn, up to one that is no operation.
+    fn at_operations(
         &self,
         alloc: Global,
         c: Checked,
@@ -92,15 +95,21 @@ impl<'a> Exchange<'a> {
         requires stand { are_targets c targets.now ≡ true }
         ensures { Agrees result (at_each (at_target (step_of self.now)) targets.now c) }
     {
-        let mut module = c;
-        let mut given = List::new(alloc);
-        for t in targets {
-            match self.at_target(alloc, module, *t, &mut given) {
-                Ok(next) => module = next,
-                Err(e) => return Err(e),
-            }
+        let ops = match operations_of(alloc, targets) {
+            Ok(ops) => ops,
+            Err(_) => return Err(StepError::Memory),
+        };
+        let (module, made) = match self.in_one_pass(alloc, c, ops.as_slice()) {
+            Ok(formed) => formed,
+            Err(e) => return Err(e),
+        };
+        if ops.len() != targets.len() {
+            return Err(WRONG_KIND);
         }
-        Ok((module, given))
+        match as_targets(alloc, made.ops.as_slice()) {
+            Ok(given) => Ok((module, given)),
+            Err(_) => Err(StepError::Memory),
+        }
     }
 }
 
@@ -117,7 +126,7 @@ impl<'a> Transform<'a> {
         ensures { Agrees result (at_each (target_step self.now) targets.now c) }
     {
         match self {
-            Transform::Exchange(x) => x.at_each(alloc, c, targets),
+            Transform::Exchange(x) => x.at_operations(alloc, c, targets),
             Transform::FuseElementwise => fuse_each(alloc, c, targets),
         }
     }
