@@ -4,7 +4,7 @@ use Rattle.std.specs.declared.alloc.Global.{Global}
 use Rattle.std.specs.Io.KnownBytes.{Appends, Keeps}
 use Rattle.mlir_base.specs.declared.limit.Which.TheVariants.{Bytes}
 use Rattle.mlir_ir.specs.declared.tree.Module.{Module}
-use Rattle.mlir_streams.specs.Causes.{Rose}
+use Rattle.mlir_streams.specs.Causes.{Rose, Counted}
 use Rattle.mlir_streams.specs.Loops.{AppendsPart, ConsumesAtMost}
 use Rattle.mlir_streams.specs.Shelves.{Files}
 use Rattle.mlir_words.specs.declared.request.WordsError.{WordsError}
@@ -63,6 +63,11 @@ ReadsFrom told name old new = Keeps old new ⊎ TakesFrom told name new
 abbrev pub ReadsOnly : Option CommandShape → Option Files → Option (List ℕ) → Option (List ℕ) → Type 0
 ReadsOnly None told old new = Keeps old new
 ReadsOnly (Some command) told old new = ReadsFrom told (name_of command.source) old new
+
+-- A file is opened once at most, and none where the words make no command.
+abbrev pub OpensOnce : Option CommandShape → ℕ → ℕ → Type 0
+OpensOnce None before now = now ≡ before
+OpensOnce (Some command) before now = Counted before now ⊎ (now ≡ before)
 
 -- The command that the words make, or `Words` exactly where they make none; want of memory is free.
 abbrev pub AsksFor : Option CommandShape → Result Command WordsError → Type 0

@@ -1,11 +1,12 @@
 ghost use Rattle.std.specs.Prelude.{◌≡◌, ◌≢◌, ◌⊎◌, ◌<◌, ◌≤◌, length, map, string_bytes, option_map, true, false, IfOk, IsErrOf};
+ghost use Rattle.mlir_streams.specs.Causes.{Counted};
 ghost use Rattle.mlir_streams.specs.Shelves.{Files};
 ghost use Rattle.mlir_opt.specs.Again.{ReadsAgain};
 ghost use Rattle.mlir_opt.specs.Answer.{answer};
 ghost use Rattle.mlir_opt.specs.Asked.{asked, is_command};
 ghost use Rattle.mlir_opt.specs.Causes.{RunCause};
 ghost use Rattle.mlir_opt.specs.Headline.{AnswersWhereTold, ExactLineWhereTold, PrefixWhereTold, AddsNoneOrSomeLine, AnswersForSome, IsTold};
-ghost use Rattle.mlir_opt.specs.Steps.{IsInput, InputCause, InputAbsence, ReadsFrom, ReadsOnly, IsRun, ReadFaultCause, WriteFaultCause};
+ghost use Rattle.mlir_opt.specs.Steps.{IsInput, InputCause, InputAbsence, ReadsFrom, ReadsOnly, IsRun, OpensOnce, ReadFaultCause, WriteFaultCause};
 
 use crate::processing::process;
 use crate::refusal::{FileError, status};
@@ -30,6 +31,7 @@ fn read_input<S: Shelf>(alloc: Global, shelf: &mut S, name: &str) -> Result<Vec<
     ensures absence { InputAbsence (S.files shelf.old)
         (S.absences shelf.old) (S.absences shelf.new) result }
     ensures absences_later { S.absences shelf.old ≤ S.absences shelf.new }
+    ensures opening { Counted (S.opens shelf.old) (S.opens shelf.new) }
 {
     match shelf.open_file(name) {
         Ok(()) => {}
@@ -62,6 +64,7 @@ fn run<S: Shelf, O: Sink>(
         }) }
     ensures taken { ReadsOnly (asked (map string_bytes words.now)) (S.files shelf.old)
         (S.left shelf.old) (S.left shelf.new) }
+    ensures opened { OpensOnce (asked (map string_bytes words.now)) (S.opens shelf.old) (S.opens shelf.new) }
     ensures words { is_command (map string_bytes words.now) ≡ false
         → IsErrOf result Refusal.Words ⊎ IsErrOf result Refusal.Memory }
     ensures command { is_command (map string_bytes words.now) ≡ true
@@ -190,9 +193,10 @@ pub fn mlir_opt<S: Shelf, O: Sink, E: Sink>(
         → ReadsAgain (map string_bytes words.now) files }
 
     // The one file that is read is the one that the words ask for. Where the shelf tells its files,
-    // at most 4,194,305 bytes of it are taken.
+    // at most 4,194,305 bytes of it are taken. It is opened once.
     ensures taken { ReadsOnly (asked (map string_bytes words.now)) (S.files shelf.old)
         (S.left shelf.old) (S.left shelf.new) }
+    ensures opened { OpensOnce (asked (map string_bytes words.now)) (S.opens shelf.old) (S.opens shelf.new) }
 
     // A fault is never passed over.
     ensures fault { (S.faults shelf.old < S.faults shelf.new)

@@ -1,10 +1,11 @@
 ghost use Rattle.std.specs.Prelude.{◌≡◌, ◌≤◌, IsTrue, ◌↔◌, Contains};
-ghost use Rattle.mlir_streams.specs.Causes.{Rose};
+ghost use Rattle.mlir_streams.specs.Causes.{Counted, Rose};
 
-/// A count after one more fault. It stays at the end of its type.
+/// A count after one more. It stays at the end of its type.
 pub fn raised(count: u64) -> u64
     ensures rose { Rose count result }
     ensures later { count ≤ result }
+    ensures counted { Counted count result }
 {
     count.saturating_add(1)
 }

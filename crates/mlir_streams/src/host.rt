@@ -74,6 +74,7 @@ pub struct HostShelf<'a, R: Files, I: Read + Drop> {
     opened: Opened<R::File>,
     faults: u64,
     absences: u64,
+    opens: u64,
 }
 
 impl<'a, R: Files, I: Read + Drop> HostShelf<'a, R, I> {
@@ -85,6 +86,7 @@ impl<'a, R: Files, I: Read + Drop> HostShelf<'a, R, I> {
             opened: Opened::Nothing,
             faults: 0,
             absences: 0,
+            opens: 0,
         }
     }
 }
@@ -98,7 +100,10 @@ impl<R: Files, I: Read + Drop> Shelf for HostShelf<'_, R, I> {
 
     ghost absences = { λ s. s.absences };
 
+    ghost opens = { λ s. s.opens };
+
     fn open_file(&mut self, name: &str) -> Result<(), OpenError> {
+        self.opens = raised(self.opens);
         if name.is_empty() {
             self.opened = Opened::Input;
             return Ok(());

@@ -59,6 +59,7 @@ pub struct MemShelf {
     opened: Option<usize>,
     at: usize,
     faults: u64,
+    opens: u64,
     ghost gives: { 1 ≤ most },
 }
 
@@ -73,6 +74,7 @@ impl MemShelf {
         ensures left { ⟦<MemShelf as Shelf>⟧.left result ≡ Some [] }
         ensures faults { ⟦<MemShelf as Shelf>⟧.faults result ≡ 0 }
         ensures absences { ⟦<MemShelf as Shelf>⟧.absences result ≡ 0 }
+        ensures opens { ⟦<MemShelf as Shelf>⟧.opens result ≡ 0 }
     {
         MemShelf {
             files,
@@ -82,6 +84,7 @@ impl MemShelf {
             opened: None,
             at: 0,
             faults: 0,
+            opens: 0,
         }
     }
 }
@@ -95,7 +98,10 @@ impl Shelf for MemShelf {
 
     ghost absences = { λ s. 0 };
 
+    ghost opens = { λ s. s.opens };
+
     fn open_file(&mut self, name: &str) -> Result<(), OpenError> {
+        self.opens = raised(self.opens);
         self.calls = raised(self.calls);
         if is_failing(self.failing.as_slice(), self.calls) {
             self.faults = raised(self.faults);
@@ -130,20 +136,23 @@ pub struct CleanShelf {
     files: List<(Name, List<u8>)>,
     opened: Option<usize>,
     at: usize,
+    opens: u64,
 }
 
 impl CleanShelf {
-    /// A shelf with these files and nothing opened, whose counts are 0 and stay so.
+    /// A shelf with these files and nothing opened, whose counts of faults and absences are 0 and stay so.
     pub fn new(files: List<(Name, List<u8>)>) -> CleanShelf
         ensures files { ⟦<CleanShelf as Shelf>⟧.files result ≡ Some (contents_of files) }
         ensures left { ⟦<CleanShelf as Shelf>⟧.left result ≡ Some [] }
         ensures faults { ⟦<CleanShelf as Shelf>⟧.faults result ≡ 0 }
         ensures absences { ⟦<CleanShelf as Shelf>⟧.absences result ≡ 0 }
+        ensures opens { ⟦<CleanShelf as Shelf>⟧.opens result ≡ 0 }
     {
         CleanShelf {
             files,
             opened: None,
             at: 0,
+            opens: 0,
         }
     }
 }
@@ -157,7 +166,10 @@ impl Shelf for CleanShelf {
 
     ghost absences = { λ s. 0 };
 
+    ghost opens = { λ s. s.opens };
+
     fn open_file(&mut self, name: &str) -> Result<(), OpenError> {
+        self.opens = raised(self.opens);
         match position_of(self.files.as_slice(), name) {
             Some(index) => {
                 self.opened = Some(index);

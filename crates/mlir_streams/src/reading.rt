@@ -35,6 +35,7 @@ pub fn read_whole<S: Shelf>(
     ensures cause { FetchCause (S.faults shelf.old) (S.faults shelf.new) result }
     ensures later { S.faults shelf.old ≤ S.faults shelf.new }
     ensures absences_later { S.absences shelf.old ≤ S.absences shelf.new }
+    ensures same_opens { S.opens shelf.new ≡ S.opens shelf.old }
 {
     let mut text = Vec::new(alloc);
     while text.len() <= limit {
@@ -59,6 +60,7 @@ fn read_more<S: Shelf>(shelf: &mut S, text: &mut Vec<u8>, room: usize) -> Result
     ensures cause { FetchCause (S.faults shelf.old) (S.faults shelf.new) result }
     ensures later { S.faults shelf.old ≤ S.faults shelf.new }
     ensures absences_later { S.absences shelf.old ≤ S.absences shelf.new }
+    ensures same_opens { S.opens shelf.new ≡ S.opens shelf.old }
 {
     let mut piece = [0u8; PIECE];
     let asked = room.min(PIECE);

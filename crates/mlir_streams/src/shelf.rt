@@ -1,6 +1,7 @@
 ghost use Rattle.std.specs.Prelude.{◌≡◌, ◌≤◌, ℕ, List, Option, OnErr};
 ghost use Rattle.std.specs.Io.{ReadsAtMost};
 ghost use Rattle.std.specs.Io.KnownBytes.{Keeps, ReadConsumes};
+ghost use Rattle.mlir_streams.specs.Causes.{Counted};
 ghost use Rattle.mlir_streams.specs.Shelves.{OpenLeaves, OpenCause, AbsenceCause, ReadCause};
 
 /// Why a file isn't opened.
@@ -33,6 +34,9 @@ pub trait Shelf {
     /// How often a file was absent.
     ghost absences: { Self → ℕ };
 
+    /// How often a file was to be opened.
+    ghost opens: { Self → ℕ };
+
     /// Opens the file of this name and leaves the whole of it unread. A refusal leaves the opened
     /// file as it was.
     fn open_file(&mut self, name: &str) -> Result<(), OpenError>
@@ -43,7 +47,8 @@ pub trait Shelf {
         ensures later { faults self.old ≤ faults self.new }
         ensures absence { AbsenceCause (files self.old)
             (absences self.old) (absences self.new) result }
-        ensures absences_later { absences self.old ≤ absences self.new };
+        ensures absences_later { absences self.old ≤ absences self.new }
+        ensures opening { Counted (opens self.old) (opens self.new) };
 
     /// Moves the next unread bytes to the front of the buffer, and answers how many. Into a buffer
     /// that isn't empty it moves none exactly where nothing is left unread.
@@ -54,5 +59,6 @@ pub trait Shelf {
         ensures same_files { files self.new ≡ files self.old }
         ensures cause { ReadCause (faults self.old) (faults self.new) result }
         ensures later { faults self.old ≤ faults self.new }
-        ensures absences_later { absences self.old ≤ absences self.new };
+        ensures absences_later { absences self.old ≤ absences self.new }
+        ensures same_opens { opens self.new ≡ opens self.old };
 }

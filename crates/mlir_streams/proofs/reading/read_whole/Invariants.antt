@@ -9,6 +9,7 @@ invariant-loop-text g l = record {
   within : length l.text.items ≤ l.limit + 1;
   same_files : g.S.Shelf.files l.shelf ≡ g.S.Shelf.files l.fn.shelf;
   no_fault : g.S.Shelf.faults l.shelf ≡ g.S.Shelf.faults l.fn.shelf;
+  same_opens : g.S.Shelf.opens l.shelf ≡ g.S.Shelf.opens l.fn.shelf;
   absences_later : g.S.Shelf.absences l.fn.shelf ≤ g.S.Shelf.absences l.shelf;
 }
 
