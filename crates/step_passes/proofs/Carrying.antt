@@ -1,12 +1,11 @@
 -- Exchanges as the code makes them: what is left of them, operation by operation.
-use Rattle.std.proofs.Common.{◌≡◌, ℕ, ◌==◌, Bool, true, false, List, [], ◌∷◌, ◌++◌, map, length, Option, Some, None, refl, ap, sym, subst, ◌∙◌, append_assoc, append-nil}
-use Rattle.std.specs.Prelude.{◌||◌, if◌then◌else◌}
-use Rattle.std.proofs.lemmas.List.{map-append}
+use Rattle.std.proofs.Common.{◌≡◌, ℕ, ◌==◌, ◌+◌, Bool, true, false, List, [], ◌∷◌, ◌++◌, length, Option, Some, None, refl, ap, sym, subst, ◌∙◌, append_assoc, append-nil}
+use Rattle.std.specs.Prelude.{if◌then◌else◌}
+use Rattle.std.proofs.lemmas.List.{length-append, map-append}
 use Rattle.std.proofs.lemmas.List.Concat.{flat_map-append}
 use Rattle.affine_maps.specs.Permutation.{is_among}
 use Rattle.mlir_ir.specs.Count.{first}
 use Rattle.mlir_ir.specs.Shape.{FuncShape}
-use Rattle.mlir_ir.specs.declared.tree.Module.{Module}
 use Rattle.mlir_ir.specs.declared.tree.Op.{Op}
 use Rattle.mlir_verify.specs.Names.{redefines, ids}
 use Rattle.verified_runs.proofs.ReusedBodies.{or_false}
@@ -16,6 +15,13 @@ use Rattle.step_passes.specs.declared.pending.Pending as code
 use Rattle.step_passes.specs.OnePass.{exchange_of, Names, put, put_by, passed_ops, passed_func}
 use Rattle.step_passes.specs.Pending.{pending_at, AreLeft, all_ids, PassesFunc}
 use Rattle.step_passes.proofs.Walking.{names_after, passed_append}
+
+pub none_left : {X : Type 0} → (xs : List X) → length xs ≡ 0 → xs ≡ []
+none_left [] h = refl
+none_left (x ∷ xs) h = absurd cc
+
+pub one_longer : {X Y : Type 0} → (xs : List X) (ys : List Y) (x : X) (y : Y) → length xs ≡ length ys → length (xs ++ x ∷ []) ≡ length (ys ++ y ∷ [])
+one_longer xs ys x y h = length-append xs (x ∷ []) ∙ ap (λ n. n + 1) h ∙ sym (length-append ys (y ∷ []))
 
 -- one that stands last, by what is behind it
 pub last_added : (xs : List Exchange) (x : Exchange) (i : ℕ) (e : Option Exchange) → first (exchange_of (xs ++ x ∷ []) i) e ≡ first (exchange_of xs i) (if x.target.0 == i then Some x else e)
@@ -80,6 +86,8 @@ passed_more xs before back f new p q own left passes =
     let of : FuncShape → List ℕ = λ f. ids f.body in
     let parts = own_parts (all_ids before) (all_ids (f ∷ back)) [] (ap (λ ns. redefines ns []) (sym (flat_map-append of before (f ∷ back))) ∙ own) in
     let here = own_parts (ids f.body) (all_ids back) (all_ids before) parts.1 in
-    let done = passes xs (all_ids before) here.0 left in
-    (done.0, subst (λ (ns : List ℕ). AreLeft xs ns q)
-        (ap (λ ns. all_ids before ++ ns) (sym (append-nil (ids f.body))) ∙ sym (flat_map-append of before (f ∷ []))) done.1)
+    let done = passes xs (all_ids before) here.0 left in (
+      done.0,
+      subst (λ (ns : List ℕ). AreLeft xs ns q)
+          (ap (λ ns. all_ids before ++ ns) (sym (append-nil (ids f.body))) ∙ sym (flat_map-append of before (f ∷ []))) done.1,
+    )

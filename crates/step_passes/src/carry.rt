@@ -1,6 +1,6 @@
 //! A pass over an owned module that makes exchanges.
 
-ghost use Rattle.std.specs.Prelude.{◌≡◌, ℕ, ◌==◌, ◌∷◌, [], map, None, Some, IfOk, OnOk, if◌then◌else◌};
+ghost use Rattle.std.specs.Prelude.{◌≡◌, ℕ, ◌==◌, ◌∷◌, [], map, length, None, Some, IfOk, OnOk, if◌then◌else◌};
 ghost use Rattle.mlir_meaning.specs.Renaming.{renamed, renamed_op};
 ghost use Rattle.mlir_verify.specs.Rules.{IsVerified};
 ghost use Rattle.step_passes.specs.Naming.{name_in};
@@ -114,7 +114,8 @@ fn replace(left: &mut Pending, names: &NewNames, op: Op) -> (Op, Option<(u32, u3
 }
 
 fn put_all(alloc: Global, left: &mut Pending, body: List<Op>) -> Result<List<Op>, Memory>
-    ensures { IfOk result (λ new. PassesOps left.old body left.new new) }
+    ensures passed { IfOk result (λ new. PassesOps left.old body left.new new) }
+    ensures many { IfOk result (λ new. length new ≡ length body) }
 {
     let mut names = own_names(alloc);
     let mut all = List::new(alloc);

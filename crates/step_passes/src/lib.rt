@@ -14,5 +14,5 @@ mod steps;
 mod told;
 
 pub use exchange::Exchange;
-pub use steps::{generalize_all, interchange_all};
 pub use laws::{generalize_is_one_pass, interchange_is_one_pass};
+pub use steps::{generalize_all, interchange_all};

@@ -1,4 +1,4 @@
-use Rattle.std.proofs.Common.{◌≡◌, ℕ, false, List, ◌++◌, length, map}
+use Rattle.std.proofs.Common.{◌≡◌, ◌++◌, length, map}
 use Rattle.std.specs.Vec.Iter.{into_iter_items, into_iter_len}
 use Rattle.step_passes.specs.OnePass.{passed_func}
 use Rattle.step_passes.specs.Pending.{AreLeft, all_ids}

@@ -11,5 +11,6 @@ abbrev pub invariant-loop-op : goal.invariant-loop-op
 invariant-loop-op l = record {
   whole : l.yielded ++ into_iter_items l.op-iterator ≡ l.fn.body;
   count : into_iter_len l.op-iterator ≡ length (into_iter_items l.op-iterator);
+  many : length l.all ≡ length l.yielded;
   walked : (xs : List Exchange) (gone : List ℕ) → redefines (ids l.fn.body) gone ≡ false → AreLeft xs gone l.fn.left → Walked xs gone l.yielded l.all (name_in l.names) l.left;
 }
