@@ -17,7 +17,7 @@ fn tensor(alloc: Global, sizes: &[u32]) -> Result<Ty, Memory> {
     Ok(Ty::Tensor { extents, elem })
 }
 
-pub(crate) fn one<T: Drop>(alloc: Global, item: T) -> Result<List<T>, Memory> {
+fn one<T: Drop>(alloc: Global, item: T) -> Result<List<T>, Memory> {
     let mut all = List::new(alloc);
     all.push(item)?;
     Ok(all)
@@ -90,7 +90,7 @@ fn module_of(
     verified(alloc, funcs)
 }
 
-pub(crate) fn matmul(alloc: Global) -> Result<Checked, Memory> {
+fn matmul(alloc: Global) -> Result<Checked, Memory> {
     let mut params = one(alloc, (ValueId(0), tensor(alloc, &[5, 3])?))?;
     params.push((ValueId(1), tensor(alloc, &[3, 7])?))?;
     params.push((ValueId(2), tensor(alloc, &[5, 7])?))?;
