@@ -1,0 +1,236 @@
+//! Entries of lists, and types that are written for values.
+
+ghost use Rattle.std.specs.Prelude.{◌≡◌, drop};
+ghost use Rattle.mlir_lex.specs.Chain.{Agree, each};
+ghost use Rattle.form_resolve.specs.Entries.{entry_place, is_axis, number_at, axis, index, is_number, next_axis, next_index, listed, starting, more_repeated, repeated, typed_at, type_of_at, output_type};
+
+use form_table::{Entry, Next};
+use mlir_base::List;
+use mlir_ir::{Idx, Ty};
+use mlir_lex::{Fault, Refused};
+use mlir_scope::{Names, digits_value, type_of, typed_as, value_id};
+use std::alloc::Global;
+use text_format::Token;
+
+fn entry_place(entry: &Entry) -> u32
+    ensures { result ≡ entry_place entry.now }
+{
+    match entry {
+        Entry::Token(token) => token.start(),
+        Entry::Number(None, digits) => digits.start(),
+        Entry::Number(Some(minus), _) => minus.start(),
+        Entry::Map(map) => map.keyword.start(),
+    }
+}
+
+fn is_axis(negative: bool, number: u64) -> bool
+    ensures { result ≡ is_axis negative number }
+{
+    if negative {
+        number == 0
+    } else {
+        number <= 1048576
+    }
+}
+
+fn read_number(negative: bool, at: u32, digits: &Token) -> Result<u32, Refused>
+    ensures { Agree result (number_at negative at digits.now) }
+{
+    let Some(number) = digits_value(digits.text()) else {
+        return Err(Refused::At(Fault::Number(at, at)));
+    };
+    if !is_axis(negative, number) {
+        return Err(Refused::At(Fault::Number(at, at)));
+    }
+    Ok(number as u32)
+}
+
+/// An axis, or an entry of an order.
+fn read_axis(entry: &Entry) -> Result<u32, Refused>
+    ensures { Agree result (axis entry.now) }
+{
+    match entry {
+        Entry::Number(None, digits) => read_number(false, digits.start(), digits),
+        Entry::Number(Some(minus), digits) => read_number(true, minus.start(), digits),
+        _ => Err(Refused::At(Fault::Syntax(u32::MAX))),
+    }
+}
+
+fn more_axes(alloc: Global, first: u32, more: &[Next]) -> Result<List<u32>, Refused>
+    ensures { Agree result (starting first (each next_axis more.now)) }
+{
+    let mut found = List::new(alloc);
+    found.push(first)?;
+    for next in more {
+        let number = read_axis(&next.entry)?;
+        found.push(number)?;
+    }
+    Ok(found)
+}
+
+/// The axes of a list, in order.
+pub(crate) fn read_axes(
+    alloc: Global,
+    first: &Option<Entry>,
+    more: &[Next],
+) -> Result<List<u32>, Refused>
+    ensures { Agree result (listed axis first.now more.now) }
+{
+    match first {
+        None => Ok(List::new(alloc)),
+        Some(entry) => {
+            let number = read_axis(entry)?;
+            more_axes(alloc, number, more)
+        }
+    }
+}
+
+/// A value, or a number.
+fn read_index(names: &Names, entry: &Entry) -> Result<Idx, Refused>
+    ensures { Agree result (index names.now entry.now) }
+{
+    match entry {
+        Entry::Token(token) => {
+            let value = value_id(names, token)?;
+            Ok(Idx::Value(value))
+        }
+        _ => {
+            let number = read_axis(entry)?;
+            Ok(Idx::Literal(number as i64))
+        }
+    }
+}
+
+fn more_indices(
+    alloc: Global,
+    names: &Names,
+    first: Idx,
+    more: &[Next],
+) -> Result<List<Idx>, Refused>
+    ensures { Agree result (starting first (each (next_index names.now) more.now)) }
+{
+    let mut found = List::new(alloc);
+    found.push(first)?;
+    for next in more {
+        let index = read_index(names, &next.entry)?;
+        found.push(index)?;
+    }
+    Ok(found)
+}
+
+/// The values and numbers of a list, in order.
+pub(crate) fn read_indices(
+    alloc: Global,
+    names: &Names,
+    first: &Option<Entry>,
+    more: &[Next],
+) -> Result<List<Idx>, Refused>
+    ensures { Agree result (listed (index names.now) first.now more.now) }
+{
+    match first {
+        None => Ok(List::new(alloc)),
+        Some(entry) => {
+            let index = read_index(names, entry)?;
+            more_indices(alloc, names, index, more)
+        }
+    }
+}
+
+fn check_number(wanted: u32, entry: &Entry) -> Result<(), Refused>
+    ensures { Agree result (is_number wanted entry.now) }
+{
+    let number = read_axis(entry)?;
+    if number == wanted {
+        Ok(())
+    } else {
+        Err(Refused::At(Fault::Unsupported(entry_place(entry))))
+    }
+}
+
+/// So many entries behind another are this number.
+fn check_more(wanted: u32, count: usize, more: &[Next], close: &Token) -> Result<(), Refused>
+    ensures { Agree result (more_repeated wanted count more.now close.now) }
+{
+    let mut left = count;
+    for next in more {
+        if left == 0 {
+            return Err(Refused::At(Fault::Syntax(next.comma.start())));
+        }
+        check_number(wanted, &next.entry)?;
+        left -= 1;
+    }
+    if left == 0 {
+        Ok(())
+    } else {
+        Err(Refused::At(Fault::Syntax(close.start())))
+    }
+}
+
+/// So many entries of a list are this number.
+pub(crate) fn check_repeated(
+    wanted: u32,
+    count: usize,
+    first: &Option<Entry>,
+    more: &[Next],
+    close: &Token,
+) -> Result<(), Refused>
+    ensures { Agree result (repeated wanted count first.now more.now close.now) }
+{
+    match first {
+        None => {
+            if count == 0 {
+                Ok(())
+            } else {
+                Err(Refused::At(Fault::Syntax(close.start())))
+            }
+        }
+        Some(entry) => {
+            if count == 0 {
+                return Err(Refused::At(Fault::Syntax(entry_place(entry))));
+            }
+            check_number(wanted, entry)?;
+            check_more(wanted, count - 1, more, close)
+        }
+    }
+}
+
+/// The type is that of the used value of this number.
+pub(crate) fn check_type(
+    alloc: Global,
+    names: &Names,
+    used: &[Token],
+    number: usize,
+    ty: &Token,
+) -> Result<(), Refused>
+    ensures { Agree result (typed_at names.now (drop number used.now) ty.now) }
+{
+    if number < used.len() {
+        typed_as(alloc, names, &used[number], ty)
+    } else {
+        Err(Refused::At(Fault::Syntax(u32::MAX)))
+    }
+}
+
+fn read_type(alloc: Global, names: &Names, used: &[Token], number: usize) -> Result<Ty, Refused>
+    ensures { Agree result (type_of_at names.now (drop number used.now)) }
+{
+    if number < used.len() {
+        type_of(alloc, names, &used[number])
+    } else {
+        Err(Refused::At(Fault::Syntax(u32::MAX)))
+    }
+}
+
+/// The type is that of the last used value.
+pub(crate) fn read_output_type(
+    alloc: Global,
+    names: &Names,
+    used: &[Token],
+    ty: &Token,
+) -> Result<Ty, Refused>
+    ensures { Agree result (output_type names.now used.now ty.now) }
+{
+    let last = used.len().saturating_sub(1);
+    check_type(alloc, names, used, last, ty)?;
+    read_type(alloc, names, used, last)
+}
