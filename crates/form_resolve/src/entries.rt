@@ -1,14 +1,14 @@
-//! Entries of lists, and types that are written for values.
+//! Numbers, and values or numbers, in lists.
 
-ghost use Rattle.std.specs.Prelude.{◌≡◌, drop};
+ghost use Rattle.std.specs.Prelude.{◌≡◌};
 ghost use Rattle.mlir_lex.specs.Chain.{Agree, each};
-ghost use Rattle.form_resolve.specs.Entries.{entry_place, is_axis, number_at, axis, index, is_number, next_axis, next_index, listed, starting, more_repeated, repeated, typed_at, type_of_at, output_type};
+ghost use Rattle.form_resolve.specs.Entries.{entry_place, is_axis, number_at, axis, index, is_number, next_axis, next_index, listed, starting, one_repeated, more_repeated, entries_repeated, repeated};
 
 use form_table::{Entry, Next};
 use mlir_base::List;
-use mlir_ir::{Idx, Ty};
+use mlir_ir::Idx;
 use mlir_lex::{Fault, Refused};
-use mlir_scope::{Names, digits_value, type_of, typed_as, value_id};
+use mlir_scope::{Names, digits_value, value_id};
 use std::alloc::Global;
 use text_format::Token;
 
@@ -147,22 +147,41 @@ fn check_number(wanted: u32, entry: &Entry) -> Result<(), Refused>
     }
 }
 
-/// So many entries behind another are this number.
-fn check_more(wanted: u32, count: usize, more: &[Next], close: &Token) -> Result<(), Refused>
-    ensures { Agree result (more_repeated wanted count more.now close.now) }
+/// One of so many entries, which must be this number. Answers how many are left.
+fn check_one(wanted: u32, left: usize, at: u32, entry: &Entry) -> Result<usize, Refused>
+    ensures { Agree result (one_repeated wanted left at entry.now) }
+{
+    if left == 0 {
+        return Err(Refused::At(Fault::Syntax(at)));
+    }
+    check_number(wanted, entry)?;
+    Ok(left - 1)
+}
+
+fn check_more(wanted: u32, count: usize, more: &[Next]) -> Result<usize, Refused>
+    ensures { Agree result (more_repeated wanted count more.now) }
 {
     let mut left = count;
     for next in more {
-        if left == 0 {
-            return Err(Refused::At(Fault::Syntax(next.comma.start())));
-        }
-        check_number(wanted, &next.entry)?;
-        left -= 1;
+        left = check_one(wanted, left, next.comma.start(), &next.entry)?;
     }
-    if left == 0 {
-        Ok(())
-    } else {
-        Err(Refused::At(Fault::Syntax(close.start())))
+    Ok(left)
+}
+
+fn check_entries(
+    wanted: u32,
+    count: usize,
+    first: &Option<Entry>,
+    more: &[Next],
+) -> Result<usize, Refused>
+    ensures { Agree result (entries_repeated wanted count first.now more.now) }
+{
+    match first {
+        None => Ok(count),
+        Some(entry) => {
+            let left = check_one(wanted, count, entry_place(entry), entry)?;
+            check_more(wanted, left, more)
+        }
     }
 }
 
@@ -176,61 +195,10 @@ pub(crate) fn check_repeated(
 ) -> Result<(), Refused>
     ensures { Agree result (repeated wanted count first.now more.now close.now) }
 {
-    match first {
-        None => {
-            if count == 0 {
-                Ok(())
-            } else {
-                Err(Refused::At(Fault::Syntax(close.start())))
-            }
-        }
-        Some(entry) => {
-            if count == 0 {
-                return Err(Refused::At(Fault::Syntax(entry_place(entry))));
-            }
-            check_number(wanted, entry)?;
-            check_more(wanted, count - 1, more, close)
-        }
-    }
-}
-
-/// The type is that of the used value of this number.
-pub(crate) fn check_type(
-    alloc: Global,
-    names: &Names,
-    used: &[Token],
-    number: usize,
-    ty: &Token,
-) -> Result<(), Refused>
-    ensures { Agree result (typed_at names.now (drop number used.now) ty.now) }
-{
-    if number < used.len() {
-        typed_as(alloc, names, &used[number], ty)
+    let left = check_entries(wanted, count, first, more)?;
+    if left == 0 {
+        Ok(())
     } else {
-        Err(Refused::At(Fault::Syntax(u32::MAX)))
+        Err(Refused::At(Fault::Syntax(close.start())))
     }
-}
-
-fn read_type(alloc: Global, names: &Names, used: &[Token], number: usize) -> Result<Ty, Refused>
-    ensures { Agree result (type_of_at names.now (drop number used.now)) }
-{
-    if number < used.len() {
-        type_of(alloc, names, &used[number])
-    } else {
-        Err(Refused::At(Fault::Syntax(u32::MAX)))
-    }
-}
-
-/// The type is that of the last used value.
-pub(crate) fn read_output_type(
-    alloc: Global,
-    names: &Names,
-    used: &[Token],
-    ty: &Token,
-) -> Result<Ty, Refused>
-    ensures { Agree result (output_type names.now used.now ty.now) }
-{
-    let last = used.len().saturating_sub(1);
-    check_type(alloc, names, used, last, ty)?;
-    read_type(alloc, names, used, last)
 }

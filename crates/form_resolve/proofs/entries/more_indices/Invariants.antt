@@ -5,4 +5,4 @@ use Rattle.form_resolve.specs.Entries.{next_index, starting}
 use Rattle.form_resolve.proofs.entries.more_indices.Given as goal
 
 abbrev pub invariant-loop-next : goal.invariant-loop-next
-invariant-loop-next l = onto l.found (each (next_index l.names) (drop l.next-index l.more)) ≡ starting l.first (each (next_index l.names) l.more)
+invariant-loop-next l = onto l.found (each (next_index l.names) (drop l.next-index l.more)) ≡ starting l.fn.first (each (next_index l.names) l.more)
