@@ -38,7 +38,7 @@ use Rattle.mlir_scope.specs.Maps.{AliasShape, aliased, alias_map, map_of}
 use Rattle.mlir_scope.specs.Scope.{held, value, value_id, type_of, typed_as, operand_of, same_operand}
 use Rattle.mlir_scope.specs.Types.{type_at, shape_type, extent_at, elements as count_elements, same_type, same_elem}
 use Rattle.mlir_scope.specs.Literals.{digits_value}
-use Rattle.form_resolve.specs.Entries.{misfit, entry_place, is_axis, number_at, axis, is_number, as_value, index, starting, listed, one_repeated, more_repeated, entries_repeated, repeated, as_written, map_entry, iterator_of, iterator_entry, iterators_from, iterators_of, use_of, next_use, more_uses, typed_at, type_of_at, last_of, output_type, type_entry, more_types}
+use Rattle.form_resolve.specs.Entries.{misfit, entry_place, is_axis, number_at, axis, is_number, as_value, index, behind as onto, listed, one_repeated, more_repeated, entries_repeated, repeated, as_written, map_entry, iterator_of, iterator_entry, iterators_from, iterators_of, use_of, next_use, more_uses, typed_at, type_of_at, last_of, output_type, type_entry, more_types}
 use Rattle.form_resolve.specs.Resolving.{silent, Standing, a_value, no_value, with_used, with_count, with_missing, token_stands, entry_stands, held_stand, listed_stand, more_stand, kept_stands, choice_stands, stands, with_some, resolved, nothing_seen}
 use Rattle.form_resolve.specs.FirstFaults.{IsAtEntry, IsAtFirst, IsAmong, IsWithin, IsFirstFault}
 use Rattle.form_resolve.proofs.Steps.{resolved_silent, resolved_short, resolved_part}
@@ -278,20 +278,29 @@ in_more : (o : Option table.Entry) (xs : List Next) (close : TokenShape) (e : Fa
 in_more o xs close e (inl h) = inl h
 in_more o xs close e (inr h) = inr (inr (inl h))
 
+behind_within : {B : Type 0} (P : Fault → Type 0) (ys : List B) (r : Result (List B) Fault) → Every P r → Every P (onto ys r)
+behind_within P ys r h = chain P r _ h (λ zs e. tt)
+
 listed_within : {B : Type 0} (f : table.Entry → Result B Fault) → ((x : table.Entry) → Every (AtEntry x) (f x)) → (o : Option table.Entry) (xs : List Next) (close : TokenShape) → Every (Within (parts.Listed o xs close)) (listed f o xs)
-listed_within f one None xs close = tt
+listed_within f one None xs close =
+    let P = Within (parts.Listed None xs close) in
+    behind_within P [] (each (λ (z : Next). f z.entry) xs) (more (Among xs) P (each (λ (z : Next). f z.entry) xs) (each_among f one xs) (in_more None xs close))
 listed_within f one (Some x) xs close =
-    chain (Within (parts.Listed (Some x) xs close)) (f x) _ (more (AtEntry x) (Within (parts.Listed (Some x) xs close)) (f x) (one x) (in_first x xs close)) (λ y e.
-    chain (Within (parts.Listed (Some x) xs close)) (each (λ (z : Next). f z.entry) xs) _ (more (Among xs) (Within (parts.Listed (Some x) xs close)) _ (each_among f one xs) (in_more (Some x) xs close)) (λ ys k. tt))
+    let P = Within (parts.Listed (Some x) xs close) in
+    chain P (f x) _ (more (AtEntry x) P (f x) (one x) (in_first x xs close)) (λ y e.
+    behind_within P (y ∷ []) (each (λ (z : Next). f z.entry) xs) (more (Among xs) P (each (λ (z : Next). f z.entry) xs) (each_among f one xs) (in_more (Some x) xs close)))
 
 iterators_within : (o : Option table.Entry) (xs : List Next) (close : TokenShape) → Every (Within (parts.Listed o xs close)) (iterators_of o xs)
-iterators_within None xs close = tt
+iterators_within None xs close =
+    let P = Within (parts.Listed None xs close) in
+    behind_within P [] (iterators_from 0 xs) (more (Among xs) P (iterators_from 0 xs) (iterators_among 0 xs) (in_more None xs close))
 iterators_within (Some x) xs close =
-    chain (Within (parts.Listed (Some x) xs close)) (iterator_entry 0 x) _ (more (AtEntry x) (Within (parts.Listed (Some x) xs close)) (iterator_entry 0 x) (iterator_there 0 x) (in_first x xs close)) (λ y e.
-    chain (Within (parts.Listed (Some x) xs close)) (iterators_from 1 xs) _ (more (Among xs) (Within (parts.Listed (Some x) xs close)) (iterators_from 1 xs) (iterators_among 1 xs) (in_more (Some x) xs close)) (λ ys k. tt))
+    let P = Within (parts.Listed (Some x) xs close) in
+    chain P (iterator_entry 0 x) _ (more (AtEntry x) P (iterator_entry 0 x) (iterator_there 0 x) (in_first x xs close)) (λ y e.
+    behind_within P (y ∷ []) (iterators_from 1 xs) (more (Among xs) P (iterators_from 1 xs) (iterators_among 1 xs) (in_more (Some x) xs close)))
 
 entries_within : (n left : ℕ) (o : Option table.Entry) (xs : List Next) (close : TokenShape) → Every (Within (parts.Listed o xs close)) (entries_repeated n left o xs)
-entries_within n left None xs close = tt
+entries_within n left None xs close = more (Among xs) (Within (parts.Listed None xs close)) (more_repeated n left xs) (repeated_among n left xs) (in_more None xs close)
 entries_within n left (Some x) xs close =
     let P = Within (parts.Listed (Some x) xs close) in
     chain P (one_repeated n left (entry_place x) x) _
@@ -350,9 +359,7 @@ more_within env Held s xs h = inl refl
 more_within env (Repeated n) s xs h = inl refl
 
 kept_within : (s : Seen) (x : table.Entry) → Every (Within (parts.One x)) (kept_stands s x)
-kept_within s (entries.Token t) = chain (At t.start) (demand (s.missing == 0) (Syntax t.start)) _ (test (At t.start) _ _ (inr refl)) (λ u e. tt)
-kept_within s (entries.Number m d) = inl refl
-kept_within s (entries.Map m) = inl refl
+kept_within s x = chain (AtEntry x) (demand (s.missing == 0) (Syntax (entry_place x))) _ (test (AtEntry x) (s.missing == 0) (Syntax (entry_place x)) (syntax_there x)) (λ u e. tt)
 
 part_within : (al : List AliasShape) (env : List Entry) (w : Want) (s : Seen) (p : Part) → AreKnown env s.used → Every (Within p) (stands al env w s p)
 unfolding stands
@@ -440,9 +447,7 @@ more_knows env Held s xs h = tt
 more_knows env (Repeated n) s xs h = tt
 
 kept_knows : (env : List Entry) (s : Seen) (x : table.Entry) → AreKnown env s.used → Gives (Knows env) (kept_stands s x)
-kept_knows env s (entries.Token t) h = gives_then (Knows env) (demand (s.missing == 0) (Syntax t.start)) _ (λ u e. h)
-kept_knows env s (entries.Number m d) h = tt
-kept_knows env s (entries.Map m) h = tt
+kept_knows env s x h = gives_then (Knows env) (demand (s.missing == 0) (Syntax (entry_place x))) _ (λ u e. h)
 
 choice_knows : (env : List Entry) (n : ℕ) (s : Seen) (b : Bool) → AreKnown env s.used → Knows env (choice_stands n s b)
 choice_knows env n s true h = h

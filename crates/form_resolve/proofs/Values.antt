@@ -38,7 +38,7 @@ use Rattle.mlir_scope.specs.Scope.{value, value_id, operand_of}
 use Rattle.mlir_scope.specs.Types.{type_at}
 use Rattle.mlir_scope.specs.Literals.{digits_value}
 use Rattle.mlir_scope.proofs.Keeps.{then_ok, ok_same, demand_ok}
-use Rattle.form_resolve.specs.Entries.{misfit, as_written, is_axis, number_at, axis, as_value, index, listed, repeated, map_entry, iterator_of, iterator_entry, iterators_from, iterators_of, use_of, next_use, more_uses, typed_at, output_type, more_types}
+use Rattle.form_resolve.specs.Entries.{misfit, entry_place, as_written, is_axis, number_at, axis, as_value, index, listed, repeated, map_entry, iterator_of, iterator_entry, iterators_from, iterators_of, use_of, next_use, more_uses, typed_at, output_type, more_types}
 use Rattle.form_resolve.specs.Resolving.{silent, Standing, a_value, no_value, with_used, with_count, with_missing, token_stands, entry_stands, held_stand, listed_stand, more_stand, kept_stands, choice_stands, stands, with_some, resolved}
 use Rattle.form_resolve.specs.Values.{IsIndex, IsHeld, IsFirst, AreFor}
 use Rattle.form_resolve.proofs.FirstFaults.{Gives}
@@ -79,7 +79,7 @@ each_given Q f one [] = tt
 each_given Q f one (x ∷ xs) = gives_then _ (f x.entry) _ (λ y e. gives_then _ (each (λ (z : Next). f z.entry) xs) _ (λ ys k. (of_given Q (f x.entry) y e (one x.entry), of_given _ _ ys k (each_given Q f one xs))))
 
 listed_given : {B : Type 0} (Q : B → Type 0) (f : table.Entry → Result B Fault) → ((x : table.Entry) → Gives Q (f x)) → (o : Option table.Entry) (xs : List Next) → Gives (AllByRecursion Q) (listed f o xs)
-listed_given Q f one None xs = tt
+listed_given Q f one None xs = gives_then _ (each (λ (z : Next). f z.entry) xs) _ (λ ys k. of_given _ _ ys k (each_given Q f one xs))
 listed_given Q f one (Some x) xs = gives_then _ (f x) _ (λ y e. gives_then _ (each (λ (z : Next). f z.entry) xs) _ (λ ys k. (of_given Q (f x) y e (one x), of_given _ _ ys k (each_given Q f one xs))))
 
 iterator_given : (k : ℕ) (x : table.Entry) → Gives (λ (i : Iter). k < 12) (iterator_entry k x)
@@ -96,7 +96,7 @@ iterators_given k (x ∷ xs) h =
     omega (arith, b)))
 
 all_iterators_given : (o : Option table.Entry) (xs : List Next) → Gives (λ (is : List Iter). length is ≤ 12) (iterators_of o xs)
-all_iterators_given None xs = omega arith
+all_iterators_given None xs = gives_then _ (iterators_from 0 xs) _ (λ is j. let b = of_given _ (iterators_from 0 xs) is j (iterators_given 0 xs (omega arith)) in omega (arith, b))
 all_iterators_given (Some x) xs = gives_then _ (iterator_entry 0 x) _ (λ i e. gives_then _ (iterators_from 1 xs) _ (λ is j. let b = of_given _ (iterators_from 1 xs) is j (iterators_given 1 xs (omega arith)) in omega (arith, b)))
 
 use_given : (env : List Entry) (ts : List TokenShape) (x : table.Entry) → Gives (λ u. (length ts < 64) × (length u.0 ≡ suc (length ts))) (next_use env ts x)
@@ -223,9 +223,7 @@ module _ (al : List AliasShape) (env : List Entry) (maps : AreMaps al) (s : Seen
   more_leads e (Repeated n) xs x h = absurd (cc h)
 
   kept_leads : (l : Lexeme) (y : table.Entry) → Leading (wants.Kept l) (length s.used) (kept_stands s y)
-  kept_leads l (entries.Token t) x h = let a = then_ok (demand (s.missing == 0) (Syntax t.start)) _ x h in leads_at (wants.Kept l) (length s.used) (no_value s) x a.2 (λ go vs k. k few)
-  kept_leads l (entries.Number m d) x h = absurd (cc h)
-  kept_leads l (entries.Map m) x h = absurd (cc h)
+  kept_leads l y x h = let a = then_ok (demand (s.missing == 0) (Syntax (entry_place y))) _ x h in leads_at (wants.Kept l) (length s.used) (no_value s) x a.2 (λ go vs k. k few)
 
   part_leads : (w : Want) (p : Part) → Leading w (length s.used) (stands al env w s p)
   unfolding stands

@@ -69,8 +69,9 @@ index env (entries.Map m) = Err misfit
 
 -- ---- lists
 
-abbrev pub starting : {B : Type 0} → B → Result (List B) Fault → Result (List B) Fault
-starting y r = and_then r (λ ys. Ok (y ∷ ys))
+-- these, and those behind them
+abbrev pub behind : {B : Type 0} → List B → Result (List B) Fault → Result (List B) Fault
+behind ys r = and_then r (λ zs. Ok (ys ++ zs))
 
 abbrev pub next_axis : Next → Result ℕ Fault
 next_axis x = axis x.entry
@@ -80,8 +81,8 @@ next_index env x = index env x.entry
 
 -- each entry of a list
 abbrev pub listed : {B : Type 0} → (parts.Entry → Result B Fault) → Option parts.Entry → List Next → Result (List B) Fault
-listed f None xs = Ok []
-listed f (Some e) xs = and_then (f e) (λ y. starting y (each (λ x. f x.entry) xs))
+listed f None xs = behind [] (each (λ x. f x.entry) xs)
+listed f (Some e) xs = and_then (f e) (λ y. behind (y ∷ []) (each (λ x. f x.entry) xs))
 
 -- one of so many entries, which must be this number: a fault at the place of a surplus one. How many are left
 abbrev pub one_repeated : ℕ → ℕ → ℕ → parts.Entry → Result ℕ Fault
@@ -93,7 +94,7 @@ more_repeated wanted left [] = Ok left
 more_repeated wanted left (x ∷ xs) = and_then (one_repeated wanted left x.comma.start x.entry) (λ n. more_repeated wanted n xs)
 
 abbrev pub entries_repeated : ℕ → ℕ → Option parts.Entry → List Next → Result ℕ Fault
-entries_repeated wanted left None xs = Ok left
+entries_repeated wanted left None xs = more_repeated wanted left xs
 entries_repeated wanted left (Some e) xs = and_then (one_repeated wanted left (entry_place e) e) (λ n. more_repeated wanted n xs)
 
 -- so many entries are this number: too few are missed at the closing token
@@ -136,11 +137,11 @@ iterator_entry k (entries.Map m) = Err misfit
 -- from number k on
 abbrev pub iterators_from : ℕ → List Next → Result (List Iter) Fault
 iterators_from k [] = Ok []
-iterators_from k (x ∷ xs) = and_then (iterator_entry k x.entry) (λ i. starting i (iterators_from (suc k) xs))
+iterators_from k (x ∷ xs) = and_then (iterator_entry k x.entry) (λ i. and_then (iterators_from (suc k) xs) (λ is. Ok (i ∷ is)))
 
 abbrev pub iterators_of : Option parts.Entry → List Next → Result (List Iter) Fault
-iterators_of None xs = Ok []
-iterators_of (Some e) xs = and_then (iterator_entry 0 e) (λ i. starting i (iterators_from 1 xs))
+iterators_of None xs = behind [] (iterators_from 0 xs)
+iterators_of (Some e) xs = and_then (iterator_entry 0 e) (λ i. behind (i ∷ []) (iterators_from 1 xs))
 
 -- ---- values that are used
 

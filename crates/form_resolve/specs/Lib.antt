@@ -1,4 +1,5 @@
 pub mod Entries
 pub mod FirstFaults
 pub mod Resolving
+pub mod Saying
 pub mod Values

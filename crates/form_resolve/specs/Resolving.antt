@@ -24,7 +24,7 @@ use Rattle.mlir_lex.specs.Chain.{and_then, demand, Fails}
 use Rattle.mlir_scope.specs.Names.{Entry}
 use Rattle.mlir_scope.specs.Maps.{AliasShape}
 use Rattle.mlir_scope.specs.Types.{type_at}
-use Rattle.form_resolve.specs.Entries.{misfit, axis, index, listed, repeated, map_entry, iterators_of, use_of, more_uses, more_types, typed_at, output_type}
+use Rattle.form_resolve.specs.Entries.{misfit, entry_place, axis, index, listed, repeated, map_entry, iterators_of, use_of, more_uses, more_types, typed_at, output_type}
 
 -- ---- what is seen
 
@@ -95,8 +95,7 @@ more_stand env r s xs = Err misfit
 
 -- a kept token: types that are missing are missed there
 abbrev pub kept_stands : Seen → table.Entry → Result Standing Fault
-kept_stands s (entries.Token t) = and_then (demand (s.missing == 0) (Syntax t.start)) (λ _. Ok (no_value s))
-kept_stands s e = Err misfit
+kept_stands s x = and_then (demand (s.missing == 0) (Syntax (entry_place x))) (λ _. Ok (no_value s))
 
 abbrev pub choice_stands : ℕ → Seen → Bool → Standing
 choice_stands n s true = (Some (There true), (zero, s))

@@ -1,18 +1,19 @@
 //! Numbers, and values or numbers, in lists.
 
-ghost use Rattle.std.specs.Prelude.{◌≡◌};
+ghost use Rattle.std.specs.Prelude.{◌≡◌, ◌∷◌, [], IfOk};
 ghost use Rattle.mlir_lex.specs.Chain.{Agree, each};
-ghost use Rattle.form_resolve.specs.Entries.{entry_place, is_axis, number_at, axis, index, is_number, next_axis, next_index, listed, starting, one_repeated, more_repeated, entries_repeated, repeated};
+ghost use Rattle.form_resolve.specs.Entries.{entry_place, is_axis, number_at, axis, index, is_number, next_axis, next_index, listed, behind, one_repeated, more_repeated, entries_repeated, repeated};
 
 use form_table::{Entry, Next};
-use mlir_base::List;
+use mlir_base::{List, Memory};
 use mlir_ir::Idx;
 use mlir_lex::{Fault, Refused};
 use mlir_scope::{Names, digits_value, value_id};
 use std::alloc::Global;
 use text_format::Token;
 
-fn entry_place(entry: &Entry) -> u32
+/// Where an entry begins.
+pub(crate) fn entry_place(entry: &Entry) -> u32
     ensures { result ≡ entry_place entry.now }
 {
     match entry {
@@ -56,11 +57,20 @@ fn read_axis(entry: &Entry) -> Result<u32, Refused>
     }
 }
 
-fn more_axes(alloc: Global, first: u32, more: &[Next]) -> Result<List<u32>, Refused>
-    ensures { Agree result (starting first (each next_axis more.now)) }
+/// A list of one item.
+pub(crate) fn list_of<T: Drop>(alloc: Global, item: T) -> Result<List<T>, Memory>
+    ensures { IfOk result (λ l. l ≡ item ∷ []) }
 {
-    let mut found = List::new(alloc);
-    found.push(first)?;
+    let mut list = List::new(alloc);
+    list.push(item)?;
+    Ok(list)
+}
+
+/// The axes behind these.
+fn more_axes(axes: List<u32>, more: &[Next]) -> Result<List<u32>, Refused>
+    ensures { Agree result (behind axes (each next_axis more.now)) }
+{
+    let mut found = axes;
     for next in more {
         let number = read_axis(&next.entry)?;
         found.push(number)?;
@@ -77,10 +87,11 @@ pub(crate) fn read_axes(
     ensures { Agree result (listed axis first.now more.now) }
 {
     match first {
-        None => Ok(List::new(alloc)),
+        None => more_axes(List::new(alloc), more),
         Some(entry) => {
             let number = read_axis(entry)?;
-            more_axes(alloc, number, more)
+            let found = list_of(alloc, number)?;
+            more_axes(found, more)
         }
     }
 }
@@ -101,16 +112,11 @@ fn read_index(names: &Names, entry: &Entry) -> Result<Idx, Refused>
     }
 }
 
-fn more_indices(
-    alloc: Global,
-    names: &Names,
-    first: Idx,
-    more: &[Next],
-) -> Result<List<Idx>, Refused>
-    ensures { Agree result (starting first (each (next_index names.now) more.now)) }
+/// The values and numbers behind these.
+fn more_indices(indices: List<Idx>, names: &Names, more: &[Next]) -> Result<List<Idx>, Refused>
+    ensures { Agree result (behind indices (each (next_index names.now) more.now)) }
 {
-    let mut found = List::new(alloc);
-    found.push(first)?;
+    let mut found = indices;
     for next in more {
         let index = read_index(names, &next.entry)?;
         found.push(index)?;
@@ -128,10 +134,11 @@ pub(crate) fn read_indices(
     ensures { Agree result (listed (index names.now) first.now more.now) }
 {
     match first {
-        None => Ok(List::new(alloc)),
+        None => more_indices(List::new(alloc), names, more),
         Some(entry) => {
             let index = read_index(names, entry)?;
-            more_indices(alloc, names, index, more)
+            let found = list_of(alloc, index)?;
+            more_indices(found, names, more)
         }
     }
 }
@@ -177,7 +184,7 @@ fn check_entries(
     ensures { Agree result (entries_repeated wanted count first.now more.now) }
 {
     match first {
-        None => Ok(count),
+        None => check_more(wanted, count, more),
         Some(entry) => {
             let left = check_one(wanted, count, entry_place(entry), entry)?;
             check_more(wanted, left, more)

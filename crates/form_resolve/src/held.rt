@@ -1,11 +1,12 @@
 //! Maps and iterators in lists.
 
-ghost use Rattle.std.specs.Prelude.{◌≡◌, IfOk, map};
+ghost use Rattle.std.specs.Prelude.{◌≡◌, IfOk, map, length};
 ghost use Rattle.mlir_lex.specs.Chain.{Agree, each};
 ghost use Rattle.mlir_syntax.specs.declared.tree.maps.MapUse.TheVariants.{Written};
 ghost use Rattle.mlir_scope.specs.Maps.{map_of};
-ghost use Rattle.form_resolve.specs.Entries.{as_piece, as_written, map_entry, next_map, listed, starting, iterator_of, iterator_entry, iterators_from, iterators_of};
+ghost use Rattle.form_resolve.specs.Entries.{as_piece, as_written, map_entry, next_map, listed, behind, iterator_of, iterator_entry, iterators_from, iterators_of};
 
+use crate::entries::list_of;
 use affine_maps::AffineMap;
 use form_table::{Entry, Next};
 use mlir_base::{List, Memory, Which};
@@ -80,16 +81,16 @@ fn read_map_entry(alloc: Global, aliases: &Aliases, entry: &Entry) -> Result<Aff
     }
 }
 
+/// The maps behind these.
 fn more_maps(
     alloc: Global,
+    maps: List<AffineMap>,
     aliases: &Aliases,
-    first: AffineMap,
     more: &[Next],
 ) -> Result<List<AffineMap>, Refused>
-    ensures { Agree result (starting first (each (next_map aliases.now) more.now)) }
+    ensures { Agree result (behind maps (each (next_map aliases.now) more.now)) }
 {
-    let mut found = List::new(alloc);
-    found.push(first)?;
+    let mut found = maps;
     for next in more {
         let map = read_map_entry(alloc, aliases, &next.entry)?;
         found.push(map)?;
@@ -107,10 +108,11 @@ pub(crate) fn read_maps(
     ensures { Agree result (listed (map_entry aliases.now) first.now more.now) }
 {
     match first {
-        None => Ok(List::new(alloc)),
+        None => more_maps(alloc, List::new(alloc), aliases, more),
         Some(entry) => {
             let map = read_map_entry(alloc, aliases, entry)?;
-            more_maps(alloc, aliases, map, more)
+            let found = list_of(alloc, map)?;
+            more_maps(alloc, found, aliases, more)
         }
     }
 }
@@ -138,12 +140,12 @@ fn read_iterator_entry(number: usize, entry: &Entry) -> Result<Iter, Refused>
     }
 }
 
-fn more_iterators(alloc: Global, first: Iter, more: &[Next]) -> Result<List<Iter>, Refused>
-    ensures { Agree result (starting first (iterators_from 1 more.now)) }
+/// The iterators behind these.
+fn more_iterators(iterators: List<Iter>, more: &[Next]) -> Result<List<Iter>, Refused>
+    ensures { Agree result (behind iterators (iterators_from (length iterators) more.now)) }
 {
-    let mut found = List::new(alloc);
-    found.push(first)?;
-    let mut number = 1usize;
+    let mut number = iterators.len();
+    let mut found = iterators;
     for next in more {
         let iterator = read_iterator_entry(number, &next.entry)?;
         found.push(iterator)?;
@@ -161,10 +163,11 @@ pub(crate) fn read_iterators(
     ensures { Agree result (iterators_of first.now more.now) }
 {
     match first {
-        None => Ok(List::new(alloc)),
+        None => more_iterators(List::new(alloc), more),
         Some(entry) => {
             let iterator = read_iterator_entry(0, entry)?;
-            more_iterators(alloc, iterator, more)
+            let found = list_of(alloc, iterator)?;
+            more_iterators(found, more)
         }
     }
 }

@@ -4,7 +4,7 @@ ghost use Rattle.std.specs.Prelude.{◌≡◌};
 ghost use Rattle.mlir_lex.specs.Chain.{Agree};
 ghost use Rattle.form_resolve.specs.Resolving.{silent, token_stands, entry_stands, held_stand, listed_stand, more_stand, kept_stands, stands, Stood, resolved, nothing_seen, Goes};
 
-use crate::entries::{check_repeated, read_axes, read_indices};
+use crate::entries::{check_repeated, entry_place, read_axes, read_indices};
 use crate::held::{read_iterators, read_maps};
 use crate::uses::{check_type, check_types, read_output_type, use_more, use_value};
 use crate::value::{Seen, Value};
@@ -165,15 +165,10 @@ fn take_more<'a>(
 fn take_kept<'a>(seen: &mut Seen<'a>, entry: &Entry<'a>) -> Result<(Option<Value>, usize), Refused>
     ensures { Stood seen.new result (kept_stands seen.old entry.now) }
 {
-    match entry {
-        Entry::Token(token) => {
-            if seen.missing == 0 {
-                Ok((None, 0))
-            } else {
-                Err(Refused::At(Fault::Syntax(token.start())))
-            }
-        }
-        _ => Err(Refused::At(Fault::Syntax(u32::MAX))),
+    if seen.missing == 0 {
+        Ok((None, 0))
+    } else {
+        Err(Refused::At(Fault::Syntax(entry_place(entry))))
     }
 }
 
