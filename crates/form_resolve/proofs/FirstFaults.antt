@@ -22,25 +22,24 @@ use Rattle.form_table.specs.declared.want.Role.TheVariants.{Used, TypeOf, Result
 use Rattle.form_table.specs.declared.want.Want.{Want}
 use Rattle.form_table.specs.declared.want.Want.TheVariants as wants
 use Rattle.form_resolve.specs.declared.value.Value.{Value}
-use Rattle.form_resolve.specs.declared.value.Value.TheVariants.{Id, MoreIds, Typed, Numbers, Indices, Maps, Iterators}
 use Rattle.form_resolve.specs.declared.value.Seen.{Seen}
 use Rattle.mlir_ir.specs.declared.tree.Ty.{Ty}
 use Rattle.mlir_ir.specs.declared.tree.Ty.TheVariants.{Scalar, Tensor, Vector}
 use Rattle.mlir_ir.specs.declared.tree.ValueId.{ValueId}
 use Rattle.mlir_lex.specs.declared.fault.Fault.{Fault}
-use Rattle.mlir_lex.specs.declared.fault.Fault.TheVariants.{Syntax, Unsupported, UnknownName, TypeDiffers, Number, Limit}
-use Rattle.mlir_lex.specs.Chain.{and_then, demand, each, thread}
+use Rattle.mlir_lex.specs.declared.fault.Fault.TheVariants.{Syntax, Unsupported, TypeDiffers, Number, Limit}
+use Rattle.mlir_lex.specs.Chain.{and_then, demand, each}
 use Rattle.mlir_lex.specs.Faults.{reach_of}
 use Rattle.mlir_scope.specs.declared.names.Meaning.{Meaning}
 use Rattle.mlir_scope.specs.declared.names.Meaning.TheVariants as meanings
 use Rattle.mlir_scope.specs.Names.{Entry, find}
-use Rattle.mlir_scope.specs.Maps.{AliasShape, aliased, alias_map, map_of}
+use Rattle.mlir_scope.specs.Maps.{AliasShape, aliased, alias_map}
 use Rattle.mlir_scope.specs.Scope.{held, value, value_id, type_of, typed_as, operand_of, same_operand}
-use Rattle.mlir_scope.specs.Types.{type_at, shape_type, extent_at, elements as count_elements, same_type, same_elem}
+use Rattle.mlir_scope.specs.Types.{type_at, shape_type, extent_at, elements as count_elements}
 use Rattle.mlir_scope.specs.Literals.{digits_value}
-use Rattle.form_resolve.specs.Entries.{misfit, entry_place, is_axis, number_at, axis, is_number, as_value, index, behind as onto, listed, one_repeated, more_repeated, entries_repeated, repeated, as_written, map_entry, iterator_of, iterator_entry, iterators_from, iterators_of, use_of, next_use, more_uses, typed_at, type_of_at, last_of, output_type, type_entry, more_types}
-use Rattle.form_resolve.specs.Resolving.{silent, Standing, a_value, no_value, with_used, with_count, with_missing, token_stands, entry_stands, held_stand, listed_stand, more_stand, kept_stands, choice_stands, stands, with_some, resolved, nothing_seen}
-use Rattle.form_resolve.specs.FirstFaults.{IsAtEntry, IsAtFirst, IsAmong, IsWithin, IsFirstFault}
+use Rattle.form_resolve.specs.Entries.{misfit, entry_place, is_axis, number_at, axis, is_number, as_value, index, behind as onto, listed, one_repeated, more_repeated, entries_repeated, repeated, map_entry, iterator_entry, iterators_from, iterators_of, use_of, next_use, more_uses, typed_at, type_of_at, last_of, output_type, type_entry, more_types}
+use Rattle.form_resolve.specs.Resolving.{silent, Standing, token_stands, entry_stands, held_stand, listed_stand, more_stand, kept_stands, choice_stands, stands, with_some, resolved}
+use Rattle.form_resolve.specs.FirstFaults.{IsAtEntry, IsAmong, IsWithin, IsFirstFault}
 use Rattle.form_resolve.proofs.Steps.{resolved_silent, resolved_short, resolved_part}
 
 -- ---- chains

@@ -1,5 +1,5 @@
 -- Parts whose fields stand for values are resolved to these values: one induction over the form.
-use Rattle.std.proofs.Common.{◌≡◌, ℕ, zero, suc, ◌+◌, ◌-◌, Bool, true, false, List, [], ◌∷◌, ◌++◌, map, length, drop, length-append, Result, Ok, Err, Option, Some, None, refl, sym, ap, ◌∙◌, subst, nat_lt, arith, append_assoc}
+use Rattle.std.proofs.Common.{◌≡◌, ℕ, zero, suc, ◌-◌, Bool, true, false, List, [], ◌∷◌, ◌++◌, map, length, drop, length-append, Result, Ok, Option, Some, None, refl, sym, ap, ◌∙◌, subst, arith, append_assoc}
 use Rattle.std.proofs.lemmas.Bool.{lt-ltb}
 use Rattle.std.proofs.lemmas.List.{length-map, append-nil}
 use Rattle.mlir_base.specs.declared.types.ElemTy.{ElemTy}
@@ -26,7 +26,7 @@ use Rattle.form_table.specs.declared.want.Role.TheVariants.{Used, TypeOf, Result
 use Rattle.form_table.specs.declared.want.Want.{Want}
 use Rattle.form_table.specs.declared.want.Want.TheVariants as wants
 use Rattle.form_table.specs.Spelling.{SpellingShape}
-use Rattle.form_laws.specs.Fields.{and_also, spelling_of, word_of, words_of, listed_words, spellings_of, with_field, fields_of}
+use Rattle.form_laws.specs.Fields.{and_also, spelling_of, word_of, words_of, listed_words, spellings_of, fields_of}
 use Rattle.form_resolve.specs.declared.value.Value.{Value}
 use Rattle.form_resolve.specs.declared.value.Value.TheVariants.{Id, MoreIds, Typed, Numbers, Indices, Maps, Iterators, Literal, There}
 use Rattle.form_resolve.specs.declared.value.Seen.{Seen}
@@ -34,11 +34,11 @@ use Rattle.mlir_lex.specs.declared.fault.Fault.{Fault}
 use Rattle.mlir_lex.specs.Chain.{and_then, each}
 use Rattle.mlir_scope.specs.Names.{Entry}
 use Rattle.mlir_scope.specs.Maps.{AliasShape}
-use Rattle.mlir_scope.specs.Scope.{operand_of, type_of, typed_as}
-use Rattle.form_resolve.specs.Entries.{axis, index, is_number, behind, listed, entry_place, one_repeated, more_repeated, entries_repeated, repeated, map_entry, iterator_entry, iterators_from, iterators_of, use_of, next_use, more_uses, type_entry, more_types, typed_at, type_of_at, last_of, output_type}
+use Rattle.mlir_scope.specs.Scope.{operand_of}
+use Rattle.form_resolve.specs.Entries.{axis, index, is_number, behind, listed, entry_place, one_repeated, more_repeated, entries_repeated, map_entry, iterators_from, iterators_of, use_of, next_use, more_uses, type_entry, more_types, typed_at, type_of_at, last_of}
 use Rattle.form_resolve.proofs.Steps.{resolved_part}
-use Rattle.form_resolve.specs.Resolving.{silent, Standing, a_value, no_value, with_used, with_count, with_missing, token_stands, entry_stands, held_stand, listed_stand, more_stand, kept_stands, stands, with_some, resolved}
-use Rattle.form_resolve.specs.Saying.{StandsFor, StandFor, AreIterators, AreRepeated, IsUse, AreUses, IsTypeOf, IsTypeAt, AreTypes, HasType, IsWrittenType, Told, with_names, told_count, last_name, texts_of, HoldWords, Say}
+use Rattle.form_resolve.specs.Resolving.{silent, with_used, with_count, with_missing, token_stands, held_stand, stands, with_some, resolved}
+use Rattle.form_resolve.specs.Saying.{StandFor, AreIterators, AreRepeated, IsUse, AreUses, IsTypeAt, AreTypes, HasType, IsWrittenType, Told, with_names, told_count, last_name, texts_of, HoldWords, Say}
 
 -- ---- options
 

@@ -1,11 +1,10 @@
 -- What is resolved are values for the wants.
-use Rattle.std.proofs.Common.{◌≡◌, ◌<◌, ◌≤◌, ◌+◌, ℕ, zero, suc, Bool, true, false, not, pos, List, [], ◌∷◌, ◌++◌, length, length-append, drop, Result, Ok, Err, Option, Some, None, refl, sym, ap, ◌∙◌, subst, nat_lt, nat_le, ◌==◌, arith}
+use Rattle.std.proofs.Common.{◌≡◌, ◌<◌, ◌≤◌, ◌+◌, ℕ, zero, suc, Bool, true, false, not, List, [], ◌∷◌, length, length-append, drop, Result, Ok, Err, Option, Some, None, refl, sym, ◌∙◌, subst, nat_lt, ◌==◌, arith}
 use Rattle.std.specs.List.{AllByRecursion}
 use Rattle.std.proofs.lemmas.Bool.{leb-true, ltb-true, eqb-true}
 use Rattle.affine_maps.specs.Map.{IsMap}
 use Rattle.affine_maps.specs.Shape.{MapShape}
 use Rattle.mlir_base.specs.declared.limit.Which.TheVariants as limits
-use Rattle.mlir_base.specs.declared.types.ElemTy.{ElemTy}
 use Rattle.text_format.specs.declared.class.Class.TheVariants as classes
 use Rattle.text_format.specs.declared.lexeme.Lexeme.{Lexeme}
 use Rattle.text_format.specs.Token.{TokenShape}
@@ -21,25 +20,22 @@ use Rattle.form_table.specs.declared.want.Role.TheVariants.{Used, TypeOf, Result
 use Rattle.form_table.specs.declared.want.Want.{Want}
 use Rattle.form_table.specs.declared.want.Want.TheVariants as wants
 use Rattle.form_resolve.specs.declared.value.Value.{Value}
-use Rattle.form_resolve.specs.declared.value.Value.TheVariants.{Id, MoreIds, Typed, Numbers, Indices, Maps, Iterators, Literal, There}
+use Rattle.form_resolve.specs.declared.value.Value.TheVariants.{Id, MoreIds, Numbers, Indices, Maps, Iterators, Literal, There}
 use Rattle.form_resolve.specs.declared.value.Seen.{Seen}
-use Rattle.mlir_ir.specs.declared.tree.Idx.{Idx}
-use Rattle.mlir_ir.specs.declared.tree.Idx.TheVariants as indices
 use Rattle.mlir_ir.specs.declared.tree.Iter.{Iter}
-use Rattle.mlir_ir.specs.declared.tree.ValueId.{ValueId}
 use Rattle.mlir_lex.specs.declared.fault.Fault.{Fault}
 use Rattle.mlir_lex.specs.declared.fault.Fault.TheVariants.{Syntax, Unsupported, Number, Limit}
-use Rattle.mlir_lex.specs.Chain.{and_then, demand, each, thread}
+use Rattle.mlir_lex.specs.Chain.{and_then, demand, each}
 use Rattle.mlir_scope.specs.Names.{Entry}
-use Rattle.mlir_scope.specs.Maps.{AliasShape, AreMaps, tokens_of, aliased, alias_map, alias_map_with_symbols, map_of}
+use Rattle.mlir_scope.specs.Maps.{AliasShape, AreMaps, tokens_of, aliased, alias_map, alias_map_with_symbols}
 use Rattle.mlir_scope.proofs.MapsFit.{read_is_map, used_is_map}
 use Rattle.mlir_syntax.specs.declared.tree.maps.MapUse.TheVariants as uses
 use Rattle.mlir_scope.specs.Scope.{value, value_id, operand_of}
 use Rattle.mlir_scope.specs.Types.{type_at}
 use Rattle.mlir_scope.specs.Literals.{digits_value}
 use Rattle.mlir_scope.proofs.Keeps.{then_ok, ok_same, demand_ok}
-use Rattle.form_resolve.specs.Entries.{misfit, entry_place, as_written, is_axis, number_at, axis, as_value, index, listed, repeated, map_entry, iterator_of, iterator_entry, iterators_from, iterators_of, use_of, next_use, more_uses, typed_at, output_type, more_types}
-use Rattle.form_resolve.specs.Resolving.{silent, Standing, a_value, no_value, with_used, with_count, with_missing, token_stands, entry_stands, held_stand, listed_stand, more_stand, kept_stands, choice_stands, stands, with_some, resolved}
+use Rattle.form_resolve.specs.Entries.{entry_place, as_written, is_axis, number_at, axis, as_value, index, listed, repeated, map_entry, iterator_entry, iterators_from, iterators_of, use_of, next_use, more_uses, typed_at, output_type, more_types}
+use Rattle.form_resolve.specs.Resolving.{silent, Standing, a_value, no_value, with_used, with_count, with_missing, token_stands, entry_stands, held_stand, listed_stand, more_stand, kept_stands, stands, with_some, resolved}
 use Rattle.form_resolve.specs.Values.{IsIndex, IsHeld, IsFirst, AreFor}
 use Rattle.form_resolve.proofs.FirstFaults.{Gives}
 use Rattle.form_resolve.proofs.Steps.{resolved_silent, resolved_short, resolved_part}

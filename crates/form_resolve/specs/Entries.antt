@@ -1,5 +1,5 @@
 -- What an entry of a list stands for, and the types that are written for values, or the first fault.
-use Rattle.std.specs.Prelude.{ℕ, zero, suc, ◌-◌, pos, Bool, true, false, nat_le, nat_lt, nat_eq, ◌==◌, List, [], ◌∷◌, ◌++◌, map, codes, length, drop, Result, Ok, Err, Option, Some, None}
+use Rattle.std.specs.Prelude.{ℕ, suc, ◌-◌, pos, Bool, true, false, nat_le, nat_lt, nat_eq, ◌==◌, List, [], ◌∷◌, ◌++◌, map, codes, length, drop, Result, Ok, Err, Option, Some, None}
 use Rattle.std.specs.Str.{bytes_eq}
 use Rattle.mlir_base.specs.declared.types.ElemTy.{ElemTy}
 use Rattle.mlir_base.specs.declared.limit.Which.TheVariants as limits

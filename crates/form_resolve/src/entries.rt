@@ -12,6 +12,12 @@ use mlir_scope::{Names, digits_value, value_id};
 use std::alloc::Global;
 use text_format::Token;
 
+pub(crate) fn copy_token<'a>(token: &Token<'a>) -> Token<'a>
+    ensures { result ≡ token.now }
+{
+    Token::new(token.kind(), token.start(), token.text())
+}
+
 /// Where an entry begins.
 pub(crate) fn entry_place(entry: &Entry) -> u32
     ensures { result ≡ entry_place entry.now }

@@ -6,7 +6,7 @@ ghost use Rattle.mlir_syntax.specs.declared.tree.maps.MapUse.TheVariants.{Writte
 ghost use Rattle.mlir_scope.specs.Maps.{map_of};
 ghost use Rattle.form_resolve.specs.Entries.{as_piece, as_written, map_entry, next_map, listed, behind, iterator_of, iterator_entry, iterators_from, iterators_of};
 
-use crate::entries::list_of;
+use crate::entries::{copy_token, list_of};
 use affine_maps::AffineMap;
 use form_table::{Entry, Next};
 use mlir_base::{List, Memory, Which};
@@ -16,12 +16,6 @@ use mlir_scope::{Aliases, read_map};
 use mlir_syntax::{MapPiece, MapUse, WrittenMap};
 use std::alloc::Global;
 use text_format::Token;
-
-fn copy_token<'a>(token: &Token<'a>) -> Token<'a>
-    ensures { result ≡ token.now }
-{
-    Token::new(token.kind(), token.start(), token.text())
-}
 
 fn copy_piece<'a>(piece: &form_table::MapPiece<'a>) -> MapPiece<'a>
     ensures { result ≡ as_piece piece.now }
@@ -45,10 +39,7 @@ fn copy_pieces<'a>(
 }
 
 /// A written map, as maps are read elsewhere in a text.
-fn as_written<'a>(
-    alloc: Global,
-    map: &form_table::WrittenMap<'a>,
-) -> Result<WrittenMap<'a>, Memory>
+fn as_written<'a>(alloc: Global, map: &form_table::WrittenMap<'a>) -> Result<WrittenMap<'a>, Memory>
     ensures { IfOk result (λ m. m ≡ as_written map.now) }
 {
     let tokens = copy_pieces(alloc, map.tokens.as_slice())?;

@@ -4,6 +4,7 @@ ghost use Rattle.std.specs.Prelude.{◌≡◌, drop};
 ghost use Rattle.mlir_lex.specs.Chain.{Agree, Leaves};
 ghost use Rattle.form_resolve.specs.Entries.{use_of, next_use, more_uses, type_entry, more_types, typed_at, type_of_at, output_type};
 
+use crate::entries::copy_token;
 use form_table::{Entry, Next};
 use mlir_base::{ElemTy, List};
 use mlir_ir::{Ty, ValueId};
@@ -11,12 +12,6 @@ use mlir_lex::{Fault, Refused};
 use mlir_scope::{Names, operand, type_of, typed_as};
 use std::alloc::Global;
 use text_format::Token;
-
-fn copy_token<'a>(token: &Token<'a>) -> Token<'a>
-    ensures { result ≡ token.now }
-{
-    Token::new(token.kind(), token.start(), token.text())
-}
 
 /// One more value that is used.
 pub(crate) fn use_value<'a>(
