@@ -37,7 +37,8 @@ use Rattle.mlir_scope.specs.Maps.{AliasShape}
 use Rattle.mlir_scope.specs.Scope.{operand_of}
 use Rattle.form_resolve.specs.Entries.{axis, index, is_number, behind, listed, entry_place, one_repeated, more_repeated, entries_repeated, map_entry, iterators_from, iterators_of, use_of, next_use, more_uses, type_entry, more_types, typed_at, type_of_at, last_of}
 use Rattle.form_resolve.proofs.Steps.{resolved_part}
-use Rattle.form_resolve.specs.Resolving.{silent, with_used, with_count, with_missing, token_stands, held_stand, stands, with_some, resolved}
+use Rattle.form_resolve.specs.Forms.{silent}
+use Rattle.form_resolve.specs.Resolving.{with_used, with_count, with_missing, token_stands, held_stand, stands, with_some, resolved}
 use Rattle.form_resolve.specs.Saying.{StandFor, AreIterators, AreRepeated, IsUse, AreUses, IsTypeAt, AreTypes, HasType, IsWrittenType, Told, with_names, told_count, last_name, texts_of, HoldWords, Say}
 
 -- ---- options

@@ -12,7 +12,8 @@ use Rattle.mlir_lex.specs.Chain.{and_then, Fails}
 use Rattle.mlir_scope.specs.Names.{Entry}
 use Rattle.mlir_scope.specs.Maps.{AliasShape}
 use Rattle.form_resolve.specs.Entries.{misfit}
-use Rattle.form_resolve.specs.Resolving.{silent, Standing, stands, with_some, taken, resolved, behind_values, Goes}
+use Rattle.form_resolve.specs.Forms.{silent}
+use Rattle.form_resolve.specs.Resolving.{Standing, stands, with_some, taken, resolved, behind_values, Goes}
 
 -- ---- one want
 

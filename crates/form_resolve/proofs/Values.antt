@@ -35,7 +35,8 @@ use Rattle.mlir_scope.specs.Types.{type_at}
 use Rattle.mlir_scope.specs.Literals.{digits_value}
 use Rattle.mlir_scope.proofs.Keeps.{then_ok, ok_same, demand_ok}
 use Rattle.form_resolve.specs.Entries.{entry_place, as_written, is_axis, number_at, axis, as_value, index, listed, repeated, map_entry, iterator_entry, iterators_from, iterators_of, use_of, next_use, more_uses, typed_at, output_type, more_types}
-use Rattle.form_resolve.specs.Resolving.{silent, Standing, a_value, no_value, with_used, with_count, with_missing, token_stands, entry_stands, held_stand, listed_stand, more_stand, kept_stands, stands, with_some, resolved}
+use Rattle.form_resolve.specs.Forms.{silent}
+use Rattle.form_resolve.specs.Resolving.{Standing, a_value, no_value, with_used, with_count, with_missing, token_stands, entry_stands, held_stand, listed_stand, more_stand, kept_stands, stands, with_some, resolved}
 use Rattle.form_resolve.specs.Values.{IsIndex, IsHeld, IsFirst, AreFor}
 use Rattle.form_resolve.proofs.FirstFaults.{Gives}
 use Rattle.form_resolve.proofs.Steps.{resolved_silent, resolved_short, resolved_part}

@@ -24,6 +24,7 @@ use Rattle.mlir_lex.specs.Chain.{and_then, demand, Fails}
 use Rattle.mlir_scope.specs.Names.{Entry}
 use Rattle.mlir_scope.specs.Maps.{AliasShape}
 use Rattle.mlir_scope.specs.Types.{type_at}
+use Rattle.form_resolve.specs.Forms.{silent}
 use Rattle.form_resolve.specs.Entries.{misfit, entry_place, axis, index, listed, repeated, map_entry, iterators_of, use_of, more_uses, more_types, typed_at, output_type}
 
 -- ---- what is seen
@@ -41,13 +42,6 @@ abbrev pub with_missing : Seen → ℕ → Seen
 with_missing s n = record { used = s.used; count = s.count; missing = n }
 
 -- ---- one part
-
--- how many wants are left out behind one that has no part
-abbrev pub silent : Want → Option ℕ
-silent (wants.Fixed l) = Some zero
-silent wants.Space = Some zero
-silent (wants.Jump n) = Some n
-silent w = None
 
 -- what a part stands for, if anything, how many wants are left out behind it, and what is seen then
 abbrev pub Standing : Type 0

@@ -2,7 +2,8 @@
 
 ghost use Rattle.std.specs.Prelude.{◌≡◌};
 ghost use Rattle.mlir_lex.specs.Chain.{Agree};
-ghost use Rattle.form_resolve.specs.Resolving.{silent, token_stands, entry_stands, held_stand, listed_stand, more_stand, kept_stands, stands, Stood, resolved, nothing_seen, Goes};
+ghost use Rattle.form_resolve.specs.Forms.{silent};
+ghost use Rattle.form_resolve.specs.Resolving.{token_stands, entry_stands, held_stand, listed_stand, more_stand, kept_stands, stands, Stood, resolved, nothing_seen, Goes};
 
 use crate::entries::{check_repeated, entry_place, read_axes, read_indices};
 use crate::held::{read_iterators, read_maps};
